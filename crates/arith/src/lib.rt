@@ -1,0 +1,8 @@
+// Document 01, "Arithmetic": the functions. Each is total, and its contract is an equation with a definition of the crate `numbers`.
+mod pick;
+
+pub use numbers::canonical32;
+pub use numbers::canonical64;
+pub use numbers::widen;
+pub use pick::clamp32;
+pub use pick::clamp64;

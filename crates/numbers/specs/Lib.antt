@@ -1,0 +1,2 @@
+-- Document 01's Arithmetic: the definitions, then what is proved of them.
+pub mod Arithmetic
