@@ -1,8 +1,13 @@
 // Document 01, "Arithmetic": the functions. Each is total, and its contract is an equation with a definition of the crate `numbers`.
+mod patterns;
 mod pick;
 
 pub use numbers::canonical32;
 pub use numbers::canonical64;
 pub use numbers::widen;
+pub use patterns::float32;
+pub use patterns::float64;
+pub use patterns::pattern32;
+pub use patterns::pattern64;
 pub use pick::clamp32;
 pub use pick::clamp64;

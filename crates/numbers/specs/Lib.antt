@@ -1,2 +1,3 @@
 -- Document 01's Arithmetic: the definitions, then what is proved of them.
 pub mod Arithmetic
+pub mod NanTest

@@ -1,15 +1,13 @@
 -- `numbers::canonical64` meets its contract: only a NaN differs from itself, and 0 / 0 is the one NaN. Assumes nothing.
-use mathlib.Core.Path.{_≡_, sym, subst}
+use mathlib.Core.Path.{sym, _∙_}
 use borrow.Author.Needs.{needs}
-use lib.Dec.{T}
-use lib.Ieee.{div, ofBits}
-use lib.Ieee.Compare.{differs-from-itself}
+use lib.Ieee.{binary64}
+use Rattle.numbers.specs.NanTest.{differs, zero-by-zero}
 use Rattle.numbers.proofs.canonical64.Statement.{statement}
 use Rattle.numbers.proofs.canonical64.Tie as tie
 
 returns : tie.Need-returns
-unfolding div ofBits
-returns c = sym (differs-from-itself (c .before .args .x) (subst T (sym (c .if1 .taken)) tt))
+returns c = zero-by-zero binary64 ∙ sym (differs (c .before .args .x) (c .if1 .taken))
 
 returns-2 : tie.Need-returns-2
 returns-2 c = search needs
