@@ -1,0 +1,231 @@
+-- Counting in lists: over joined, mapped and kept lists, and over the lists that cells yield, where a count is a sum of the cells' counts. By induction on
+-- the list or on the number of cells. Assumes nothing.
+use mathlib.Core.Path.{_≡_, refl, sym, ap, ap₂, _∙_, subst}
+use mathlib.Core.Logic.{_≢_, _⊎_, inl, inr, ⊎-elim}
+use mathlib.Core.Bool.{Bool, true, false, cond, _&&_, false≢true}
+use mathlib.Core.List.{List, [], _∷_, _++_, map, append-nil}
+use Prim.Native.Nat.{ℕ, zero, suc, _+_, _≤_, _<_}
+use native.Mathlib.Numerals.{add-one}
+use native.Mathlib.Omega.{arith}
+use lib.Dec.{T, eqb, eqb→eq, eqb-refl}
+use lib.ListN.{length, getD, length-append}
+use Rattle.closed.specs.Lists.{bit, count, keep, every, All, sum, sum3, cells, cells3}
+use Rattle.closed.specs.Sums.{sum-cong}
+
+-- ---- tests, and two numbers compared
+
+pub bit-le : (t : Bool) → bit t ≤ 1
+bit-le false = omega arith
+bit-le true = omega arith
+
+-- two numbers are equal and the test says so, or they differ and the test says that
+pub same? : (x y : ℕ) → ((x ≡ y) × (eqb x y ≡ true)) ⊎ ((x ≢ y) × (eqb x y ≡ false))
+same? x y = go (eqb x y) refl
+  where
+    go : (t : Bool) → eqb x y ≡ t → ((x ≡ y) × (eqb x y ≡ true)) ⊎ ((x ≢ y) × (eqb x y ≡ false))
+    go true e = inl (eqb→eq x y (subst T (sym e) tt), e)
+    go false e = inr ((λ p. subst T e (subst (λ (n : ℕ). T (eqb x n)) p (eqb-refl x))), e)
+
+pub eqb-same : (x : ℕ) → eqb x x ≡ true
+eqb-same x = ⊎-elim (λ e. e .1) (λ n. absurd (n .0 refl)) (same? x x)
+
+pub eqb-differ : (x y : ℕ) → x ≢ y → eqb x y ≡ false
+eqb-differ x y d = ⊎-elim (λ e. absurd (d (e .0))) (λ n. n .1) (same? x y)
+
+pub eqb-equal : (x y : ℕ) → eqb x y ≡ true → x ≡ y
+eqb-equal x y h = ⊎-elim (λ e. e .0) (λ n. absurd (false≢true (sym (n .1) ∙ h))) (same? x y)
+
+-- a map that takes c and a to different numbers unless they are equal
+pub eqb-map : (g : ℕ → ℕ) (c a : ℕ) → (g c ≡ g a → c ≡ a) → eqb (g c) (g a) ≡ eqb c a
+eqb-map g c a h =
+    ⊎-elim
+    (λ e. ap (λ (z : ℕ). eqb (g z) (g a)) (e .0) ∙ eqb-same (g a) ∙ sym (e .1))
+    (λ n. eqb-differ (g c) (g a) (λ e. n .0 (h e)) ∙ sym (n .1))
+    (same? c a)
+
+pub and-swap : (s t : Bool) → (s && t) ≡ (t && s)
+and-swap true true = refl
+and-swap true false = refl
+and-swap false true = refl
+and-swap false false = refl
+
+pub and-true : (s t : Bool) → (s && t) ≡ true → (s ≡ true) × (t ≡ true)
+and-true true true e = (refl, refl)
+and-true true false e = absurd (false≢true e)
+and-true false true e = absurd (false≢true e)
+and-true false false e = absurd (false≢true e)
+
+pub and-none : (s t : Bool) → t ≡ false → (s && t) ≡ false
+and-none true t e = e
+and-none false t e = refl
+
+-- ---- counting
+
+module _ {A : Type 0} where
+  pub count-nil : (p : A → Bool) → count p [] ≡ 0
+  unfolding count
+  count-nil p = refl
+
+  pub count-cons : (p : A → Bool) (x : A) (l : List A) → count p (x ∷ l) ≡ bit (p x) + count p l
+  unfolding count
+  count-cons p x l = refl
+
+  pub count-append : (p : A → Bool) (l m : List A) → count p (l ++ m) ≡ count p l + count p m
+  unfolding count
+  count-append p [] m = omega arith
+  count-append p (x ∷ l) m = omega (arith, count-append p l m)
+
+  pub count-snoc : (p : A → Bool) (l : List A) (x : A) → count p (l ++ (x ∷ [])) ≡ count p l + bit (p x)
+  unfolding count
+  count-snoc p l x = omega (arith, count-append p l (x ∷ []))
+
+  pub count-le-length : (p : A → Bool) (l : List A) → count p l ≤ length l
+  unfolding count
+  count-le-length p [] = omega arith
+  count-le-length p (x ∷ l) = omega (arith, bit-le (p x), count-le-length p l)
+
+  -- ---- what holds of each element
+
+  pub all-of : (P : A → Type 0) → ((x : A) → P x) → (l : List A) → All P l
+  all-of P h [] = tt
+  all-of P h (x ∷ l) = (h x, all-of P h l)
+
+  pub all-map : (P Q : A → Type 0) → ((x : A) → P x → Q x) → (l : List A) → All P l → All Q l
+  all-map P Q h [] a = tt
+  all-map P Q h (x ∷ l) a = (h x (a .0), all-map P Q h l (a .1))
+
+  pub all-append : (P : A → Type 0) (l m : List A) → All P l → All P m → All P (l ++ m)
+  all-append P [] m a b = b
+  all-append P (x ∷ l) m a b = (a .0, all-append P l m (a .1) b)
+
+  pub all-at : (P : A → Type 0) (l : List A) → All P l → (d : A) (i : ℕ) → i < length l → P (getD l i d)
+  all-at P [] a d i h = absurd (omega arith)
+  all-at P (x ∷ l) a d zero h = a .0
+  all-at P (x ∷ l) a d (suc i) h = all-at P l (a .1) d i (omega arith)
+
+  pub at-all : (P : A → Type 0) (l : List A) (d : A) → ((i : ℕ) → i < length l → P (getD l i d)) → All P l
+  at-all P [] d h = tt
+  at-all P (x ∷ l) d h = (h 0 (omega arith), at-all P l d (λ i b. h (suc i) (omega arith)))
+
+  -- tests that agree on each element count alike
+  pub count-cong : (p q : A → Bool) (l : List A) → All (λ x. p x ≡ q x) l → count p l ≡ count q l
+  unfolding count
+  count-cong p q [] a = refl
+  count-cong p q (x ∷ l) a = ap₂ (λ (m n : ℕ). m + n) (ap bit (a .0)) (count-cong p q l (a .1))
+
+  pub count-nothing : (p : A → Bool) (l : List A) → All (λ x. p x ≡ false) l → count p l ≡ 0
+  unfolding count
+  count-nothing p [] a = refl
+  count-nothing p (x ∷ l) a = ap₂ (λ (m n : ℕ). m + n) (ap bit (a .0)) (count-nothing p l (a .1))
+
+-- a test of what f makes of an element
+pub count-map : {A B : Type 0} (p : B → Bool) (f : A → B) (l : List A) → count p (map f l) ≡ count (λ x. p (f x)) l
+unfolding count
+count-map p f [] = refl
+count-map p f (x ∷ l) = ap (λ (n : ℕ). bit (p (f x)) + n) (count-map p f l)
+
+pub all-map-map : {A B : Type 0} (P : B → Type 0) (f : A → B) (l : List A) → All (λ x. P (f x)) l → All P (map f l)
+all-map-map P f [] a = tt
+all-map-map P f (x ∷ l) a = (a .0, all-map-map P f l (a .1))
+
+-- ---- the elements that pass a test, in order
+
+module _ {A : Type 0} where
+  pub keep-append : (p : A → Bool) (l m : List A) → keep p (l ++ m) ≡ keep p l ++ keep p m
+  unfolding keep
+  keep-append p [] m = refl
+  keep-append p (x ∷ l) m = step (p x) (keep-append p l m)
+    where
+      step : (t : Bool) → keep p (l ++ m) ≡ keep p l ++ keep p m → cond t (x ∷ keep p (l ++ m)) (keep p (l ++ m)) ≡ cond t (x ∷ keep p l) (keep p l) ++ keep p m
+      step true e = ap (λ (r : List A). x ∷ r) e
+      step false e = e
+
+  pub length-keep : (p : A → Bool) (l : List A) → length (keep p l) ≡ count p l
+  unfolding keep count
+  length-keep p [] = refl
+  length-keep p (x ∷ l) = step (p x) (length-keep p l)
+    where
+      step : (t : Bool) → length (keep p l) ≡ count p l → length (cond t (x ∷ keep p l) (keep p l)) ≡ bit t + count p l
+      step true e = omega (arith, e)
+      step false e = omega (arith, e)
+
+  pub all-keep : (P : A → Type 0) (p : A → Bool) (l : List A) → All P l → All P (keep p l)
+  unfolding keep
+  all-keep P p [] a = tt
+  all-keep P p (x ∷ l) a = step (p x) (all-keep P p l (a .1))
+    where
+      step : (t : Bool) → All P (keep p l) → All P (cond t (x ∷ keep p l) (keep p l))
+      step true h = (a .0, h)
+      step false h = h
+
+pub keep-map : {A B : Type 0} (p : B → Bool) (f : A → B) (l : List A) → keep p (map f l) ≡ map f (keep (λ x. p (f x)) l)
+unfolding keep
+keep-map p f [] = refl
+keep-map {A} {B} p f (x ∷ l) = step (p (f x)) (keep-map p f l)
+  where
+    step : (t : Bool) → keep p (map f l) ≡ map f (keep (λ x. p (f x)) l)
+        → cond t (f x ∷ keep p (map f l)) (keep p (map f l)) ≡ map f (cond t (x ∷ keep (λ x. p (f x)) l) (keep (λ x. p (f x)) l))
+    step true e = ap (λ (r : List B). f x ∷ r) e
+    step false e = e
+
+-- what each element passes, all have
+pub every-all : {A : Type 0} (p : A → Bool) (l : List A) → every p l ≡ true → All (λ x. p x ≡ true) l
+every-all p [] h = tt
+every-all p (x ∷ l) h = let t = and-true (p x) (every p l) h in (t .0, every-all p l (t .1))
+
+-- ---- the lists that n cells yield, joined in order; and three such joins, one inside the other, in the order i, j, k
+
+module _ {A : Type 0} where
+  pub cells-zero : (f : ℕ → List A) → cells 0 f ≡ []
+  unfolding cells
+  cells-zero f = refl
+
+  pub cells-suc : (n : ℕ) (f : ℕ → List A) → cells (suc n) f ≡ cells n f ++ f n
+  unfolding cells
+  cells-suc n f = refl
+
+  -- the same at the code's n + 1: a turn of a loop
+  pub cells-one-more : (n : ℕ) (f : ℕ → List A) → cells (n + 1) f ≡ cells n f ++ f n
+  unfolding cells
+  cells-one-more n f = rw add-one refl
+
+  pub cells-cong : (n : ℕ) (f g : ℕ → List A) → ((i : ℕ) → i < n → f i ≡ g i) → cells n f ≡ cells n g
+  unfolding cells
+  cells-cong zero f g h = refl
+  cells-cong (suc n) f g h = ap₂ (λ (l m : List A). l ++ m) (cells-cong n f g (λ i b. h i (omega arith))) (h n (omega arith))
+
+  pub count-cells : (p : A → Bool) (n : ℕ) (f : ℕ → List A) → count p (cells n f) ≡ sum n (λ i. count p (f i))
+  unfolding cells sum
+  count-cells p zero f = count-nil p
+  count-cells p (suc n) f = omega (arith, count-append p (cells n f) (f n), count-cells p n f)
+
+  pub length-cells : (n : ℕ) (f : ℕ → List A) → length (cells n f) ≡ sum n (λ i. length (f i))
+  unfolding cells sum
+  length-cells zero f = refl
+  length-cells (suc n) f = omega (arith, length-append (cells n f) (f n), length-cells n f)
+
+  pub all-cells : (P : A → Type 0) (n : ℕ) (f : ℕ → List A) → ((i : ℕ) → i < n → All P (f i)) → All P (cells n f)
+  unfolding cells
+  all-cells P zero f h = tt
+  all-cells P (suc n) f h = all-append P (cells n f) (f n) (all-cells P n f (λ i b. h i (omega arith))) (h n (omega arith))
+
+  pub cells3-cong : (m n p : ℕ) (f g : ℕ → ℕ → ℕ → List A)
+      → ((i j k : ℕ) → i < m → j < n → k < p → f i j k ≡ g i j k) → cells3 m n p f ≡ cells3 m n p g
+  unfolding cells3
+  cells3-cong m n p f g h = cells-cong m _ _ (λ i bi. cells-cong n _ _ (λ j bj. cells-cong p _ _ (λ k bk. h i j k bi bj bk)))
+
+  -- the count over the joined list is the triple sum of the cells' counts
+  pub count-cells3 : (t : A → Bool) (m n p : ℕ) (f : ℕ → ℕ → ℕ → List A) → count t (cells3 m n p f) ≡ sum3 m n p (λ i j k. count t (f i j k))
+  unfolding cells3 sum3
+  count-cells3 t m n p f =
+      count-cells t m _ ∙ sum-cong m _ _ (λ i bi. count-cells t n _ ∙ sum-cong n _ _ (λ j bj. count-cells t p _))
+
+  pub length-cells3 : (m n p : ℕ) (f : ℕ → ℕ → ℕ → List A) → length (cells3 m n p f) ≡ sum3 m n p (λ i j k. length (f i j k))
+  unfolding cells3 sum3
+  length-cells3 m n p f =
+      length-cells m _ ∙ sum-cong m _ _ (λ i bi. length-cells n _ ∙ sum-cong n _ _ (λ j bj. length-cells p _))
+
+  pub all-cells3 : (P : A → Type 0) (m n p : ℕ) (f : ℕ → ℕ → ℕ → List A)
+      → ((i j k : ℕ) → i < m → j < n → k < p → All P (f i j k)) → All P (cells3 m n p f)
+  unfolding cells3
+  all-cells3 P m n p f h = all-cells P m _ (λ i bi. all-cells P n _ (λ j bj. all-cells P p _ (λ k bk. h i j k bi bj bk)))
