@@ -11,7 +11,7 @@ use Rattle.closed.specs.Lists.{bit, count, every, All, member, In}
 use Rattle.closed.specs.Faces.{Face, face, runs, Balanced, Apart, mapFace}
 use Rattle.closed.specs.Numbering.{Injective}
 use Rattle.closed.specs.Table.{Arc, arc, goes, flip, arcs, evenly, balancedTest, apartTest}
-use Rattle.closed.specs.Counting.{count-map, count-cong, all-of, every-all, eqb-same, eqb-differ, eqb-equal, and-swap, and-true, and-none}
+use Rattle.closed.specs.Counting.{count-append, count-map, count-cong, all-of, every-all, eqb-same, eqb-differ, eqb-equal, and-swap, and-true, and-none}
 use Rattle.closed.specs.Turning.{pair-true, passes-runs}
 use Rattle.closed.specs.Mesh.{pair-map}
 use Rattle.closed.specs.Renumber.{in-or-not, in-all, map-in}
@@ -28,6 +28,17 @@ pub count-flip : (a b : ℕ) (xs : List Arc) → count (goes a b) (map flip xs) 
 count-flip a b xs =
     count-map (goes a b) flip xs
     ∙ count-cong (λ x. goes a b (flip x)) (goes b a) xs (all-of (λ x. goes a b (flip x) ≡ goes b a x) (goes-flip a b) xs)
+
+-- xs balance but for ys, as a sum and as a list
+pub balanced-net : (xs ys : List Arc) → BalancedArcs (xs ++ map flip ys)
+    → (a b : ℕ) → count (goes a b) xs + count (goes b a) ys ≡ count (goes b a) xs + count (goes a b) ys
+balanced-net xs ys h a b =
+    omega (arith, h a b, count-append (goes a b) xs (map flip ys), count-append (goes b a) xs (map flip ys), count-flip a b ys, count-flip b a ys)
+
+pub net-balanced : (xs ys : List Arc) → ((a b : ℕ) → count (goes a b) xs + count (goes b a) ys ≡ count (goes b a) xs + count (goes a b) ys)
+    → BalancedArcs (xs ++ map flip ys)
+net-balanced xs ys h a b =
+    omega (arith, h a b, count-append (goes a b) xs (map flip ys), count-append (goes b a) xs (map flip ys), count-flip a b ys, count-flip b a ys)
 
 -- ---- the arcs of faces
 

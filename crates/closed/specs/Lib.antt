@@ -13,3 +13,4 @@ pub mod Sums
 pub mod Table
 pub mod Turning
 pub mod Tested
+pub mod Cells

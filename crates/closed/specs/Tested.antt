@@ -12,9 +12,9 @@ use Rattle.closed.specs.Lists.{count, every, All, member, In, upto}
 use Rattle.closed.specs.Faces.{Face, corners}
 use Rattle.closed.specs.Table.{Arc, goes, flip, arcs, cubeEdges, edges, endsOf, differ, crosses, caseOf, cubeSides, Row, Table, balancedTest, apartTest, rowTest, allBits, tableTest}
 use Rattle.closed.specs.Rows.{rows, row, triangles, emitted}
-use Rattle.closed.specs.Counting.{count-append, every-all, and-true}
+use Rattle.closed.specs.Counting.{every-all, and-true}
 use Rattle.closed.specs.Renumber.{all-in, in-or-not, in-at, length-upto, at-upto}
-use Rattle.closed.specs.Arcs.{BalancedArcs, balanced-by-test, apart-by-test, count-flip, ends}
+use Rattle.closed.specs.Arcs.{BalancedArcs, balanced-by-test, apart-by-test, balanced-net, ends}
 
 -- ---- a test of all lists of n bits, at one of them
 
@@ -78,15 +78,7 @@ module _ (tri : ℕ → List Face) (b : ℕ → Bool) where
       record {
         exact = exact-by-test b (corners fs) (u .1) (r .1);
         apart = apart-by-test fs (u .0);
-        even = λ p q.
-            omega (
-              arith,
-              balanced-by-test xs (t .1) p q,
-              count-append (goes p q) (arcs fs) (map flip (cubeSides b)),
-              count-append (goes q p) (arcs fs) (map flip (cubeSides b)),
-              count-flip p q (cubeSides b),
-              count-flip q p (cubeSides b),
-            );
+        even = balanced-net (arcs fs) (cubeSides b) (balanced-by-test xs (t .1));
       }
 
 -- the corners of a case, as a list
@@ -109,3 +101,11 @@ unfolding member
 sides-known b =
     every-all (λ e. member e cubeEdges) (ends (cubeSides b))
     (allBits-at 8 (λ l. every (λ e. member e cubeEdges) (ends (cubeSides (λ c. getD l c false)))) refl (eight b) refl)
+
+-- a row uses the cube's edges alone
+pub exact-known : (b : ℕ → Bool) (e : ℕ) → In e (corners (emitted (caseOf b))) → In e cubeEdges
+exact-known b e m = by-cases (decLt e 12)
+  where
+    by-cases : Dec (e < 12) → In e cubeEdges
+    by-cases (yes p) = in-cubeEdges e p
+    by-cases (no p) = absurd (true≢false (sym m ∙ table-rule b .exact e ∙ crosses-none b e (omega arith)))
