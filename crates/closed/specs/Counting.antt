@@ -98,6 +98,9 @@ module _ {A : Type 0} where
   all-append P [] m a b = b
   all-append P (x ∷ l) m a b = (a .0, all-append P l m (a .1) b)
 
+  pub all-four : (P : A → Type 0) (a b c d : A) (l : List A) → P a → P b → P c → P d → All P l → All P (a ∷ b ∷ c ∷ d ∷ l)
+  all-four P a b c d l pa pb pc pd rest = (pa, (pb, (pc, (pd, rest))))
+
   pub all-at : (P : A → Type 0) (l : List A) → All P l → (d : A) (i : ℕ) → i < length l → P (getD l i d)
   all-at P [] a d i h = absurd (omega arith)
   all-at P (x ∷ l) a d zero h = a .0

@@ -14,3 +14,4 @@ pub mod Table
 pub mod Turning
 pub mod Tested
 pub mod Cells
+pub mod Crossings
