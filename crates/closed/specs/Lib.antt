@@ -15,3 +15,4 @@ pub mod Turning
 pub mod Tested
 pub mod Cells
 pub mod Crossings
+pub mod Vertices
