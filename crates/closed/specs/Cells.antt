@@ -4,7 +4,7 @@
 use mathlib.Core.Path.{_≡_, refl, sym, ap, ap₂, _∙_, subst}
 use mathlib.Core.Logic.{_⊎_, inl, inr, ⊎-elim}
 use mathlib.Core.Bool.{Bool, true, false}
-use mathlib.Core.List.{List, [], _∷_, _++_, map}
+use mathlib.Core.List.{List, [], _∷_, _++_, map, map-append}
 use Prim.Native.Nat.{ℕ, _+_, _-_, _*_, _≤_, _<_}
 use native.Mathlib.Nat.{mul-le-mul-right, add-zero}
 use native.Mathlib.Omega.{arith}
@@ -17,7 +17,7 @@ use Rattle.closed.specs.Grid.{node, edge, cornerBelow, cellCase, cellEdg
 use Rattle.closed.specs.Counting.{count-nil, count-append, every-all, all-append, all-map, all-cells3}
 use Rattle.closed.specs.Renumber.{in-head, in-tail, in-cases, in-all, all-in, not-in-nil}
 use Rattle.closed.specs.Mesh.{apart-mapFace}
-use Rattle.closed.specs.Arcs.{mapArc, ends, ends-append, BalancedArcs, lift-cell, net-balanced, flip-map, map-arcs-append, count-arcs, count-flip}
+use Rattle.closed.specs.Arcs.{mapArc, ends, ends-append, BalancedArcs, lift-cell, net-balanced, flip-map, count-arcs, count-flip}
 use Rattle.closed.specs.Tested.{table-rule, sides-known, exact-known}
 use Rattle.closed.specs.Closed.{PerCell, Matched, closed-faces}
 
@@ -166,7 +166,7 @@ module _ (ny nz : ℕ) (below : ℕ → ℕ → ℕ → Bool) (i j k : ℕ) wher
       (sideX ny nz below (i + 0) j k) (map flip (sideX ny nz below (i + 1) j k))
       (sideY ny nz below i (j + 0) k) (map flip (sideY ny nz below i (j + 1) k))
       (sideZ ny nz below i j (k + 0)) (map flip (sideZ ny nz below i j (k + 1)))
-  cell-sides = simp (map-arcs-append, low-x-is, high-x-is, low-y-is, high-y-is, low-z-is, high-z-is)
+  cell-sides = simp (map-append, low-x-is, high-x-is, low-y-is, high-y-is, low-z-is, high-z-is)
 
   -- ---- the faces of a cell
 

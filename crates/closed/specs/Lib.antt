@@ -16,3 +16,4 @@ pub mod Tested
 pub mod Cells
 pub mod Crossings
 pub mod Vertices
+pub mod Entries

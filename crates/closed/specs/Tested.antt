@@ -12,7 +12,7 @@ use Rattle.closed.specs.Lists.{count, every, All, member, In, upto}
 use Rattle.closed.specs.Faces.{Face, corners}
 use Rattle.closed.specs.Table.{Arc, goes, flip, arcs, cubeEdges, edges, endsOf, differ, crosses, caseOf, cubeSides, Row, Table, balancedTest, apartTest, rowTest, allBits, tableTest}
 use Rattle.closed.specs.Rows.{rows, row, triangles, emitted}
-use Rattle.closed.specs.Counting.{every-all, and-true}
+use Rattle.closed.specs.Counting.{every-all, both-true}
 use Rattle.closed.specs.Renumber.{all-in, in-or-not, in-at, length-upto, at-upto}
 use Rattle.closed.specs.Arcs.{BalancedArcs, balanced-by-test, apart-by-test, balanced-net, ends}
 
@@ -23,9 +23,9 @@ allBits-at zero p h [] e = h
 allBits-at zero p h (b ∷ l) e = absurd (omega arith)
 allBits-at (suc n) p h [] e = absurd (omega arith)
 allBits-at (suc n) p h (false ∷ l) e =
-    allBits-at n (λ l. p (false ∷ l)) (and-true (allBits n (λ l. p (false ∷ l))) (allBits n (λ l. p (true ∷ l))) h .0) l (omega arith)
+    allBits-at n (λ l. p (false ∷ l)) (both-true (allBits n (λ l. p (false ∷ l))) (allBits n (λ l. p (true ∷ l))) h .0) l (omega arith)
 allBits-at (suc n) p h (true ∷ l) e =
-    allBits-at n (λ l. p (true ∷ l)) (and-true (allBits n (λ l. p (false ∷ l))) (allBits n (λ l. p (true ∷ l))) h .1) l (omega arith)
+    allBits-at n (λ l. p (true ∷ l)) (both-true (allBits n (λ l. p (false ∷ l))) (allBits n (λ l. p (true ∷ l))) h .1) l (omega arith)
 
 -- ---- what is no edge of the cube does not cross
 
@@ -72,9 +72,9 @@ module _ (tri : ℕ → List Face) (b : ℕ → Bool) where
       let xs : List Arc = arcs fs ++ map flip (cubeSides b) in
       let right : Bool = every (λ e. Bool·beq (member e (corners fs)) (crosses b e)) cubeEdges in
       let known : Bool = every (λ e. member e cubeEdges) (corners fs) in
-      let t = and-true (every apartTest fs && known && right) (balancedTest xs) h in
-      let r = and-true (every apartTest fs && known) right (t .0) in
-      let u = and-true (every apartTest fs) known (r .0) in
+      let t = both-true (every apartTest fs && known && right) (balancedTest xs) h in
+      let r = both-true (every apartTest fs && known) right (t .0) in
+      let u = both-true (every apartTest fs) known (r .0) in
       record {
         exact = exact-by-test b (corners fs) (u .1) (r .1);
         apart = apart-by-test fs (u .0);

@@ -6,8 +6,9 @@ use mathlib.Core.Bool.{Bool, true, false, _||_, true≢false, false≢true}
 use mathlib.Core.List.{List, [], _∷_}
 use Prim.Native.Nat.{ℕ, zero, suc, _+_, _-_, _*_, _≤_, _<_}
 use native.Mathlib.Nat.{zero-add}
-use native.Mathlib.Decide.{decLt}
+use native.Mathlib.Numerals.{lt-of-le-of-ne}
 use native.Mathlib.Omega.{arith}
+use borrow.Author.Tests.{ne-eqb}
 use lib.Dec.{eqb}
 use lib.ListN.{length, getD}
 use Rattle.closed.specs.Lists.{bit, All, member, In, sum, sum3}
@@ -16,19 +17,12 @@ use Rattle.closed.specs.Numbering.{indexOf, used, NoRepeat}
 use Rattle.closed.specs.Table.{differ}
 use Rattle.closed.specs.Grid.{node, edge, gridFaces, Crossed, along-x, along-y, along-z, crossedCount}
 use Rattle.closed.specs.Sums.{sum-cong, sum-nothing, sum-add, sum-less, sum-rows, sum3-add, sum3-cong, sum3-less-first, sum3-less-second, sum3-less-third}
-use Rattle.closed.specs.Counting.{same?, eqb-same, eqb-differ}
+use Rattle.closed.specs.Counting.{same?}
 use Rattle.closed.specs.Renumber.{in-or-not, at-indexOf, indexOf-lt, in-all}
 use Rattle.closed.specs.Mesh.{used-member, used-no-repeat}
 use Rattle.closed.specs.Crossings.{edge-unique, node-unique, crossed-lt, crossed-used, used-crossed}
 
 -- ---- small facts
-
-lt-of-le-of-ne : (x n : ℕ) → x ≤ n → x ≢ n → x < n
-lt-of-le-of-ne x n h d = by-cases (decLt x n)
-  where
-    by-cases : Dec (x < n) → x < n
-    by-cases (yes p) = p
-    by-cases (no p) = absurd (d (omega arith))
 
 same-bool : (s t : Bool) → (s ≡ true → t ≡ true) → (t ≡ true → s ≡ true) → s ≡ t
 same-bool true t f g = sym (f refl)
@@ -46,10 +40,10 @@ sum-one zero x h = absurd (omega arith)
 sum-one (suc n) x h = ⊎-elim last (before (sum-one n x)) (same? n x)
   where
     last : (n ≡ x) × (eqb n x ≡ true) → sum n (λ e. bit (eqb e x)) + bit (eqb n x) ≡ 1
-    last p = omega (arith, sum-nothing n (λ e. bit (eqb e x)) (λ e b. ap bit (eqb-differ e x (λ q. omega (arith, q, p .0)))), ap bit (p .1))
+    last p = omega (arith, sum-nothing n (λ e. bit (eqb e x)) (λ e b. ap bit (ne-eqb e x (λ q. omega (arith, q, p .0)))), ap bit (p .1))
 
     before : (x < n → sum n (λ e. bit (eqb e x)) ≡ 1) → (n ≢ x) × (eqb n x ≡ false) → sum n (λ e. bit (eqb e x)) + bit (eqb n x) ≡ 1
-    before below p = omega (arith, below (lt-of-le-of-ne x n (omega arith) (λ q. p .0 (sym q))), ap bit (p .1))
+    before below p = omega (arith, below (lt-of-le-of-ne (omega arith) (λ q. p .0 (sym q))), ap bit (p .1))
 
 module _ (x : ℕ) (l : List ℕ) (u : NoRepeat (x ∷ l)) where
   head-new : member x l ≡ false
