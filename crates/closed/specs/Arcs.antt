@@ -11,7 +11,7 @@ use lib.Dec.{eqb}
 use Rattle.closed.specs.Lists.{bit, count, every, All, member, In}
 use Rattle.closed.specs.Faces.{Face, face, runs, Balanced, Apart, mapFace}
 use Rattle.closed.specs.Numbering.{Injective}
-use Rattle.closed.specs.Table.{Arc, arc, goes, flip, arcs, evenly, balancedTest, apartTest}
+use Rattle.closed.specs.Table.{Arc, arc, goes, flip, mapArc, arcs, evenly, balancedTest, apartTest}
 use Rattle.closed.specs.Counting.{count-append, count-map, count-cong, all-of, every-all, both-true}
 use Rattle.closed.specs.Turning.{pair-true, passes-runs}
 use Rattle.closed.specs.Mesh.{pair-map}
@@ -113,9 +113,6 @@ faces-by-test fs h k a b =
 abbrev pub ends : List Arc → List ℕ
 ends [] = []
 ends (arc x y ∷ xs) = x ∷ y ∷ ends xs
-
-abbrev pub mapArc : (ℕ → ℕ) → Arc → Arc
-mapArc g (arc x y) = arc (g x) (g y)
 
 pub ends-map : (g : ℕ → ℕ) (xs : List Arc) → ends (map (mapArc g) xs) ≡ map g (ends xs)
 ends-map g [] = refl

@@ -11,13 +11,13 @@ use native.Mathlib.Omega.{arith}
 use Rattle.closed.specs.Lists.{count, member, In, All, cells3}
 use Rattle.closed.specs.Faces.{Face, face, runs, Balanced, Apart, mapFace, corners}
 use Rattle.closed.specs.Numbering.{Injective}
-use Rattle.closed.specs.Table.{Arc, arc, goes, flip, arcs, cubeEdges, side, lowX, highX, lowY, highY, lowZ, highZ, sides, cubeSides, crosses, Row}
+use Rattle.closed.specs.Table.{Arc, arc, goes, flip, mapArc, arcs, cubeEdges, side, lowX, highX, lowY, highY, lowZ, highZ, sides, cubeSides, crosses, Row}
 use Rattle.closed.specs.Rows.{emitted}
-use Rattle.closed.specs.Grid.{node, edge, cornerBelow, cellCase, cellEdge, cellFaces, gridFaces, Outer}
+use Rattle.closed.specs.Grid.{node, edge, cornerBelow, cellCase, cellEdge, cellFaces, gridFaces, onGrid, Outer}
 use Rattle.closed.specs.Counting.{count-nil, count-append, every-all, all-append, all-map, all-cells3}
 use Rattle.closed.specs.Renumber.{in-head, in-tail, in-cases, in-all, all-in, not-in-nil}
 use Rattle.closed.specs.Mesh.{apart-mapFace}
-use Rattle.closed.specs.Arcs.{mapArc, ends, ends-append, BalancedArcs, lift-cell, net-balanced, flip-map, count-arcs, count-flip}
+use Rattle.closed.specs.Arcs.{ends, ends-append, BalancedArcs, lift-cell, net-balanced, flip-map, count-arcs, count-flip}
 use Rattle.closed.specs.Tested.{table-rule, sides-known, exact-known}
 use Rattle.closed.specs.Closed.{PerCell, Matched, closed-faces}
 
@@ -133,35 +133,32 @@ module _ (ny nz : ℕ) (below : ℕ → ℕ → ℕ → Bool) (i j k : ℕ) wher
   abbrev at : ℕ → Bool
   at c = cornerBelow below i j k c
 
-  abbrev pub onGrid : List Arc → List Arc
-  onGrid xs = map (mapArc (cellEdge ny nz i j k)) xs
-
-  pub low-x-is : onGrid (lowX (cornerBelow below i j k)) ≡ sideX ny nz below (i + 0) j k
+  pub low-x-is : onGrid ny nz i j k (lowX (cornerBelow below i j k)) ≡ sideX ny nz below (i + 0) j k
   unfolding sideX
   low-x-is = side-map (cellEdge ny nz i j k) (at 0) (at 3) (at 7) (at 4) 3 11 7 8
 
-  pub high-x-is : onGrid (highX (cornerBelow below i j k)) ≡ map flip (sideX ny nz below (i + 1) j k)
+  pub high-x-is : onGrid ny nz i j k (highX (cornerBelow below i j k)) ≡ map flip (sideX ny nz below (i + 1) j k)
   unfolding sideX
   high-x-is = side-flip (cellEdge ny nz i j k) (at 1) (at 2) (at 6) (at 5) 1 10 5 9
 
-  pub low-y-is : onGrid (lowY (cornerBelow below i j k)) ≡ sideY ny nz below i (j + 0) k
+  pub low-y-is : onGrid ny nz i j k (lowY (cornerBelow below i j k)) ≡ sideY ny nz below i (j + 0) k
   unfolding sideY
   low-y-is = side-map (cellEdge ny nz i j k) (at 0) (at 4) (at 5) (at 1) 8 4 9 0
 
-  pub high-y-is : onGrid (highY (cornerBelow below i j k)) ≡ map flip (sideY ny nz below i (j + 1) k)
+  pub high-y-is : onGrid ny nz i j k (highY (cornerBelow below i j k)) ≡ map flip (sideY ny nz below i (j + 1) k)
   unfolding sideY
   high-y-is = side-flip (cellEdge ny nz i j k) (at 3) (at 7) (at 6) (at 2) 11 6 10 2
 
-  pub low-z-is : onGrid (lowZ (cornerBelow below i j k)) ≡ sideZ ny nz below i j (k + 0)
+  pub low-z-is : onGrid ny nz i j k (lowZ (cornerBelow below i j k)) ≡ sideZ ny nz below i j (k + 0)
   unfolding sideZ
   low-z-is = side-map (cellEdge ny nz i j k) (at 0) (at 1) (at 2) (at 3) 0 1 2 3
 
-  pub high-z-is : onGrid (highZ (cornerBelow below i j k)) ≡ map flip (sideZ ny nz below i j (k + 1))
+  pub high-z-is : onGrid ny nz i j k (highZ (cornerBelow below i j k)) ≡ map flip (sideZ ny nz below i j (k + 1))
   unfolding sideZ
   high-z-is = side-flip (cellEdge ny nz i j k) (at 4) (at 5) (at 6) (at 7) 4 5 6 7
 
   cell-sides :
-      onGrid (cubeSides (cornerBelow below i j k))
+      onGrid ny nz i j k (cubeSides (cornerBelow below i j k))
       ≡ sides
       (sideX ny nz below (i + 0) j k) (map flip (sideX ny nz below (i + 1) j k))
       (sideY ny nz below i (j + 0) k) (map flip (sideY ny nz below i (j + 1) k))

@@ -12,7 +12,7 @@ use borrow.Author.Tests.{eqb-true, leb-true, lt-leb, le-leb, le-ltb}
 use lib.Dec.{eqb, leb, lit<}
 use lib.IntN.{ℤ, pos, negsuc}
 use lib.ListN.{length, getD, length-map, List·getD-map, List·getD-eq-default}
-use lib.Signed.{ltZ}
+use lib.Signed.{mag, ltZ}
 use Rattle.closed.specs.Lists.{every, All}
 use Rattle.closed.specs.Faces.{Face, face, faces, corners, turn}
 use Rattle.closed.specs.Rows.{rows, row, triangles, emitted, entry, pad, flat, flatTable}
@@ -77,6 +77,14 @@ entry-neg c t =
     ⊎-elim
     (λ l. ap (λ (z : ℤ). ltZ z (pos 0)) (entry-in c t l) ∙ le-ltb (getD (row c) t 0) 0 zero-le ∙ sym (lt-leb (length (row c)) t l))
     (λ l. ap (λ (z : ℤ). ltZ z (pos 0)) (entry-end c t l) ∙ sym (le-leb (length (row c)) t l))
+    (within-or-past c t)
+
+-- it is an edge or -1, so it fits a signed byte
+pub entry-small : (c t : ℕ) → c < 256 → mag (entry c t) < 12
+entry-small c t h =
+    ⊎-elim
+    (λ l. subst (λ (z : ℤ). mag z < 12) (sym (entry-in c t l)) (row-right c h .edges t l))
+    (λ l. subst (λ (z : ℤ). mag z < 12) (sym (entry-end c t l)) (lit< tt))
     (within-or-past c t)
 
 -- ---- the flat table

@@ -17,3 +17,4 @@ pub mod Cells
 pub mod Crossings
 pub mod Vertices
 pub mod Entries
+pub mod Claims
