@@ -1,6 +1,11 @@
 pub mod Arcs
+pub mod Cells
+pub mod Claims
 pub mod Closed
 pub mod Counting
+pub mod Crossings
+pub mod Entries
+pub mod Examples
 pub mod Faces
 pub mod Grid
 pub mod Lists
@@ -11,10 +16,6 @@ pub mod Renumber
 pub mod Rows
 pub mod Sums
 pub mod Table
-pub mod Turning
 pub mod Tested
-pub mod Cells
-pub mod Crossings
+pub mod Turning
 pub mod Vertices
-pub mod Entries
-pub mod Claims
