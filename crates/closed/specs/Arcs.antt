@@ -2,16 +2,17 @@
 -- keeps the balance, so a rule that is computed over a cube's twelve edges holds of the edges of a grid (`lift-cell`). Assumes nothing.
 use mathlib.Core.Path.{_≡_, refl, sym, ap, ap₂, _∙_, subst}
 use mathlib.Core.Logic.{_≢_, _⊎_, inl, inr}
-use mathlib.Core.Bool.{Bool, true, false, not, _&&_, true≢false}
-use mathlib.Core.List.{List, [], _∷_, _++_, map}
+use mathlib.Core.Bool.{Bool, true, false, not, _&&_, true≢false, and-comm, and-false}
+use mathlib.Core.List.{List, [], _∷_, _++_, map, map-append}
 use Prim.Native.Nat.{ℕ, _+_}
 use native.Mathlib.Omega.{arith}
+use borrow.Author.Tests.{eqb-true, eq-eqb, ne-eqb}
 use lib.Dec.{eqb}
 use Rattle.closed.specs.Lists.{bit, count, every, All, member, In}
 use Rattle.closed.specs.Faces.{Face, face, runs, Balanced, Apart, mapFace}
 use Rattle.closed.specs.Numbering.{Injective}
-use Rattle.closed.specs.Table.{Arc, arc, goes, flip, arcs, evenly, balancedTest, apartTest}
-use Rattle.closed.specs.Counting.{count-map, count-cong, all-of, every-all, eqb-same, eqb-differ, eqb-equal, and-swap, and-true, and-none}
+use Rattle.closed.specs.Table.{Arc, arc, goes, flip, mapArc, arcs, evenly, balancedTest, apartTest}
+use Rattle.closed.specs.Counting.{count-append, count-map, count-cong, all-of, every-all, both-true}
 use Rattle.closed.specs.Turning.{pair-true, passes-runs}
 use Rattle.closed.specs.Mesh.{pair-map}
 use Rattle.closed.specs.Renumber.{in-or-not, in-all, map-in}
@@ -22,12 +23,23 @@ BalancedArcs xs = (a b : ℕ) → count (goes a b) xs ≡ count (goes b a) xs
 -- ---- the other way round
 
 pub goes-flip : (a b : ℕ) (x : Arc) → goes a b (flip x) ≡ goes b a x
-goes-flip a b (arc x y) = and-swap (eqb y a) (eqb x b)
+goes-flip a b (arc x y) = and-comm (eqb y a) (eqb x b)
 
 pub count-flip : (a b : ℕ) (xs : List Arc) → count (goes a b) (map flip xs) ≡ count (goes b a) xs
 count-flip a b xs =
     count-map (goes a b) flip xs
     ∙ count-cong (λ x. goes a b (flip x)) (goes b a) xs (all-of (λ x. goes a b (flip x) ≡ goes b a x) (goes-flip a b) xs)
+
+-- xs balance but for ys, as a sum and as a list
+pub balanced-net : (xs ys : List Arc) → BalancedArcs (xs ++ map flip ys)
+    → (a b : ℕ) → count (goes a b) xs + count (goes b a) ys ≡ count (goes b a) xs + count (goes a b) ys
+balanced-net xs ys h a b =
+    omega (arith, h a b, count-append (goes a b) xs (map flip ys), count-append (goes b a) xs (map flip ys), count-flip a b ys, count-flip b a ys)
+
+pub net-balanced : (xs ys : List Arc) → ((a b : ℕ) → count (goes a b) xs + count (goes b a) ys ≡ count (goes b a) xs + count (goes a b) ys)
+    → BalancedArcs (xs ++ map flip ys)
+net-balanced xs ys h a b =
+    omega (arith, h a b, count-append (goes a b) xs (map flip ys), count-append (goes b a) xs (map flip ys), count-flip a b ys, count-flip b a ys)
 
 -- ---- the arcs of faces
 
@@ -58,7 +70,7 @@ even-at : (xs : List Arc) (a b : ℕ) (x : Arc) → goes a b x ≡ true → even
 even-at xs a b (arc x y) g e =
     let t = pair-true a b x y g in
     sym (ap₂ (λ (m n : ℕ). count (goes m n) xs) (t .0) (t .1))
-    ∙ eqb-equal (count (goes x y) xs) (count (goes y x) xs) e
+    ∙ eqb-true (count (goes x y) xs) (count (goes y x) xs) e
     ∙ ap₂ (λ (m n : ℕ). count (goes n m) xs) (t .0) (t .1)
 
 pub balanced-by-test : (xs : List Arc) → balancedTest xs ≡ true → BalancedArcs xs
@@ -78,17 +90,17 @@ balanced-by-test xs h a b =
 
 -- three different corners, computed
 differ-by-test : (x y : ℕ) → not (eqb x y) ≡ true → x ≢ y
-differ-by-test x y h e = true≢false (sym h ∙ ap not (ap (λ (z : ℕ). eqb z y) e ∙ eqb-same y))
+differ-by-test x y h e = true≢false (sym h ∙ ap not (ap (λ (z : ℕ). eqb z y) e ∙ eq-eqb y y refl))
 
 apart-one : (f : Face) → apartTest f ≡ true → Apart f
 apart-one (face x y z) h =
-    let t = and-true (not (eqb x y) && not (eqb y z)) (not (eqb z x)) h in
-    let s = and-true (not (eqb x y)) (not (eqb y z)) (t .0) in
+    let t = both-true (not (eqb x y) && not (eqb y z)) (not (eqb z x)) h in
+    let s = both-true (not (eqb x y)) (not (eqb y z)) (t .0) in
     (differ-by-test x y (s .0), differ-by-test y z (s .1), differ-by-test z x (t .1))
 
 pub apart-by-test : (fs : List Face) → every apartTest fs ≡ true → All Apart fs
 apart-by-test [] h = tt
-apart-by-test (f ∷ fs) h = let t = and-true (apartTest f) (every apartTest fs) h in (apart-one f (t .0), apart-by-test fs (t .1))
+apart-by-test (f ∷ fs) h = let t = both-true (apartTest f) (every apartTest fs) h in (apart-one f (t .0), apart-by-test fs (t .1))
 
 -- a mesh that is written out is closed, by computing
 pub faces-by-test : (fs : List Face) → every apartTest fs ≡ true → balancedTest (arcs fs) ≡ true → Balanced fs
@@ -101,9 +113,6 @@ faces-by-test fs h k a b =
 abbrev pub ends : List Arc → List ℕ
 ends [] = []
 ends (arc x y ∷ xs) = x ∷ y ∷ ends xs
-
-abbrev pub mapArc : (ℕ → ℕ) → Arc → Arc
-mapArc g (arc x y) = arc (g x) (g y)
 
 pub ends-map : (g : ℕ → ℕ) (xs : List Arc) → ends (map (mapArc g) xs) ≡ map g (ends xs)
 ends-map g [] = refl
@@ -134,13 +143,13 @@ pub arcs-from-none : (a b : ℕ) (xs : List Arc) → All (λ c. c ≢ a) (ends x
 unfolding count
 arcs-from-none a b [] p = refl
 arcs-from-none a b (arc x y ∷ xs) p =
-    ap₂ (λ (m n : ℕ). m + n) (ap bit (ap (λ (s : Bool). s && eqb y b) (eqb-differ x a (p .0)))) (arcs-from-none a b xs (p .1 .1))
+    ap₂ (λ (m n : ℕ). m + n) (ap bit (ap (λ (s : Bool). s && eqb y b) (ne-eqb x a (p .0)))) (arcs-from-none a b xs (p .1 .1))
 
 pub arcs-to-none : (a b : ℕ) (xs : List Arc) → All (λ c. c ≢ b) (ends xs) → count (goes a b) xs ≡ 0
 unfolding count
 arcs-to-none a b [] p = refl
 arcs-to-none a b (arc x y ∷ xs) p =
-    ap₂ (λ (m n : ℕ). m + n) (ap bit (and-none (eqb x a) (eqb y b) (eqb-differ y b (p .1 .0)))) (arcs-to-none a b xs (p .1 .1))
+    ap₂ (λ (m n : ℕ). m + n) (ap bit (ap (λ (t : Bool). eqb x a && t) (ne-eqb y b (p .1 .0)) ∙ and-false (eqb x a))) (arcs-to-none a b xs (p .1 .1))
 
 module _ (g : ℕ → ℕ) (xs : List Arc) (inj : Injective g (ends xs)) where
   none-end : (z : ℕ) → member z (map g (ends xs)) ≡ false → All (λ c. c ≢ z) (ends (map (mapArc g) xs))
@@ -172,13 +181,9 @@ module _ (g : ℕ → ℕ) (xs : List Arc) (inj : Injective g (ends xs)) where
 
 -- ---- a cell's balance, lifted: what is computed over local edges holds over the edges that g names
 
-pub map-arcs-append : (g : ℕ → ℕ) (xs ys : List Arc) → map (mapArc g) (xs ++ ys) ≡ map (mapArc g) xs ++ map (mapArc g) ys
-map-arcs-append g [] ys = refl
-map-arcs-append g (x ∷ xs) ys = ap (λ (r : List Arc). mapArc g x ∷ r) (map-arcs-append g xs ys)
-
 pub lift-cell : (g : ℕ → ℕ) (fs : List Face) (sides : List Arc) → Injective g (ends (arcs fs ++ map flip sides))
     → BalancedArcs (arcs fs ++ map flip sides) → BalancedArcs (arcs (map (mapFace g) fs) ++ map flip (map (mapArc g) sides))
 lift-cell g fs sides inj h =
     subst BalancedArcs
-    (map-arcs-append g (arcs fs) (map flip sides) ∙ sym (ap₂ (λ (l m : List Arc). l ++ m) (arcs-map g fs) (flip-map g sides)))
+    (map-append (mapArc g) (arcs fs) (map flip sides) ∙ sym (ap₂ (λ (l m : List Arc). l ++ m) (arcs-map g fs) (flip-map g sides)))
     (balanced-mapArc g (arcs fs ++ map flip sides) inj h)

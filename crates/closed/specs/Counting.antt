@@ -7,7 +7,8 @@ use mathlib.Core.List.{List, [], _∷_, _++_, map, append-nil}
 use Prim.Native.Nat.{ℕ, zero, suc, _+_, _≤_, _<_}
 use native.Mathlib.Numerals.{add-one}
 use native.Mathlib.Omega.{arith}
-use lib.Dec.{T, eqb, eqb→eq, eqb-refl}
+use borrow.Author.Tests.{eqb-true, eqb-false, eq-eqb, ne-eqb}
+use lib.Dec.{eqb}
 use lib.ListN.{length, getD, length-append}
 use Rattle.closed.specs.Lists.{bit, count, keep, every, All, sum, sum3, cells, cells3}
 use Rattle.closed.specs.Sums.{sum-cong}
@@ -23,41 +24,22 @@ pub same? : (x y : ℕ) → ((x ≡ y) × (eqb x y ≡ true)) ⊎ ((x ≢ y) × 
 same? x y = go (eqb x y) refl
   where
     go : (t : Bool) → eqb x y ≡ t → ((x ≡ y) × (eqb x y ≡ true)) ⊎ ((x ≢ y) × (eqb x y ≡ false))
-    go true e = inl (eqb→eq x y (subst T (sym e) tt), e)
-    go false e = inr ((λ p. subst T e (subst (λ (n : ℕ). T (eqb x n)) p (eqb-refl x))), e)
-
-pub eqb-same : (x : ℕ) → eqb x x ≡ true
-eqb-same x = ⊎-elim (λ e. e .1) (λ n. absurd (n .0 refl)) (same? x x)
-
-pub eqb-differ : (x y : ℕ) → x ≢ y → eqb x y ≡ false
-eqb-differ x y d = ⊎-elim (λ e. absurd (d (e .0))) (λ n. n .1) (same? x y)
-
-pub eqb-equal : (x y : ℕ) → eqb x y ≡ true → x ≡ y
-eqb-equal x y h = ⊎-elim (λ e. e .0) (λ n. absurd (false≢true (sym (n .1) ∙ h))) (same? x y)
+    go true e = inl (eqb-true x y e, e)
+    go false e = inr (eqb-false x y e, e)
 
 -- a map that takes c and a to different numbers unless they are equal
 pub eqb-map : (g : ℕ → ℕ) (c a : ℕ) → (g c ≡ g a → c ≡ a) → eqb (g c) (g a) ≡ eqb c a
 eqb-map g c a h =
     ⊎-elim
-    (λ e. ap (λ (z : ℕ). eqb (g z) (g a)) (e .0) ∙ eqb-same (g a) ∙ sym (e .1))
-    (λ n. eqb-differ (g c) (g a) (λ e. n .0 (h e)) ∙ sym (n .1))
+    (λ e. ap (λ (z : ℕ). eqb (g z) (g a)) (e .0) ∙ eq-eqb (g a) (g a) refl ∙ sym (e .1))
+    (λ n. ne-eqb (g c) (g a) (λ e. n .0 (h e)) ∙ sym (n .1))
     (same? c a)
 
-pub and-swap : (s t : Bool) → (s && t) ≡ (t && s)
-and-swap true true = refl
-and-swap true false = refl
-and-swap false true = refl
-and-swap false false = refl
-
-pub and-true : (s t : Bool) → (s && t) ≡ true → (s ≡ true) × (t ≡ true)
-and-true true true e = (refl, refl)
-and-true true false e = absurd (false≢true e)
-and-true false true e = absurd (false≢true e)
-and-true false false e = absurd (false≢true e)
-
-pub and-none : (s t : Bool) → t ≡ false → (s && t) ≡ false
-and-none true t e = e
-and-none false t e = refl
+pub both-true : (s t : Bool) → (s && t) ≡ true → (s ≡ true) × (t ≡ true)
+both-true true true e = (refl, refl)
+both-true true false e = absurd (false≢true e)
+both-true false true e = absurd (false≢true e)
+both-true false false e = absurd (false≢true e)
 
 -- ---- counting
 
@@ -98,6 +80,9 @@ module _ {A : Type 0} where
   all-append P [] m a b = b
   all-append P (x ∷ l) m a b = (a .0, all-append P l m (a .1) b)
 
+  pub all-four : (P : A → Type 0) (a b c d : A) (l : List A) → P a → P b → P c → P d → All P l → All P (a ∷ b ∷ c ∷ d ∷ l)
+  all-four P a b c d l pa pb pc pd rest = (pa, (pb, (pc, (pd, rest))))
+
   pub all-at : (P : A → Type 0) (l : List A) → All P l → (d : A) (i : ℕ) → i < length l → P (getD l i d)
   all-at P [] a d i h = absurd (omega arith)
   all-at P (x ∷ l) a d zero h = a .0
@@ -127,6 +112,12 @@ count-map p f (x ∷ l) = ap (λ (n : ℕ). bit (p (f x)) + n) (count-map p f l)
 pub all-map-map : {A B : Type 0} (P : B → Type 0) (f : A → B) (l : List A) → All (λ x. P (f x)) l → All P (map f l)
 all-map-map P f [] a = tt
 all-map-map P f (x ∷ l) a = (a .0, all-map-map P f l (a .1))
+
+-- element i of a mapped list
+pub at-map : {A B : Type 0} (g : A → B) (l : List A) (i : ℕ) (d : A) (d′ : B) → i < length l → getD (map g l) i d′ ≡ g (getD l i d)
+at-map g [] i d d′ h = absurd (omega arith)
+at-map g (x ∷ l) zero d d′ h = refl
+at-map g (x ∷ l) (suc i) d d′ h = at-map g l i d d′ (omega arith)
 
 -- ---- the elements that pass a test, in order
 
@@ -171,7 +162,7 @@ keep-map {A} {B} p f (x ∷ l) = step (p (f x)) (keep-map p f l)
 -- what each element passes, all have
 pub every-all : {A : Type 0} (p : A → Bool) (l : List A) → every p l ≡ true → All (λ x. p x ≡ true) l
 every-all p [] h = tt
-every-all p (x ∷ l) h = let t = and-true (p x) (every p l) h in (t .0, every-all p l (t .1))
+every-all p (x ∷ l) h = let t = both-true (p x) (every p l) h in (t .0, every-all p l (t .1))
 
 -- ---- the lists that n cells yield, joined in order; and three such joins, one inside the other, in the order i, j, k
 

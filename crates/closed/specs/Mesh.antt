@@ -2,17 +2,18 @@
 -- used edge: for the numbering is one to one (Renumber), and a renaming one to one changes no count. Assumes nothing.
 use mathlib.Core.Path.{_≡_, refl, sym, ap, ap₂, _∙_, subst}
 use mathlib.Core.Logic.{_≢_, _⊎_, inl, inr, ⊎-elim}
-use mathlib.Core.Bool.{Bool, true, false, cond, _&&_, _||_, true≢false}
+use mathlib.Core.Bool.{Bool, true, false, cond, _&&_, _||_, true≢false, and-false}
 use mathlib.Core.List.{List, [], _∷_, _++_, map}
 use Prim.Native.Nat.{ℕ, zero, suc, _+_, _<_}
 use native.Mathlib.Decide.{decLt}
 use native.Mathlib.Omega.{arith}
+use borrow.Author.Tests.{ne-eqb}
 use lib.Dec.{eqb}
 use lib.ListN.{length, getD, length-map}
 use Rattle.closed.specs.Lists.{bit, count, keep, All, member, In, upto, cells, cells3}
 use Rattle.closed.specs.Faces.{Face, face, pair, runs, Balanced, Apart, mapFace, corners}
 use Rattle.closed.specs.Numbering.{indexOf, dedup, used, edgeOf, renumber, mesh, NoRepeat, Injective}
-use Rattle.closed.specs.Counting.{eqb-map, eqb-differ, and-none, keep-map}
+use Rattle.closed.specs.Counting.{eqb-map, keep-map}
 use Rattle.closed.specs.Turning.{corners-append}
 use Rattle.closed.specs.Renumber.{in-or-not, not-in-nil, in-head, in-tail, in-cases, in-append-left, in-append-right, in-append-cases, in-at, in-all, in-map, map-in, indexOf-lt, at-indexOf, indexOf-injective, indexOf-at, indexOf-map, member-dedup, no-repeat-dedup, dedup-map, map-indexOf}
 
@@ -94,7 +95,7 @@ count-from-none a b (face x y z ∷ fs) p =
     (count-from-none a b fs (p .1 .1 .1))
   where
     no-pair : (u v : ℕ) → u ≢ a → pair a b u v ≡ false
-    no-pair u v d = ap (λ (s : Bool). s && eqb v b) (eqb-differ u a d)
+    no-pair u v d = ap (λ (s : Bool). s && eqb v b) (ne-eqb u a d)
 
 pub count-to-none : (a b : ℕ) (fs : List Face) → All (λ c. c ≢ b) (corners fs) → count (runs a b) fs ≡ 0
 unfolding count
@@ -108,7 +109,7 @@ count-to-none a b (face x y z ∷ fs) p =
     (count-to-none a b fs (p .1 .1 .1))
   where
     no-pair : (u v : ℕ) → v ≢ b → pair a b u v ≡ false
-    no-pair u v d = and-none (eqb u a) (eqb v b) (eqb-differ v b d)
+    no-pair u v d = ap (λ (s : Bool). eqb u a && s) (ne-eqb v b d) ∙ and-false (eqb u a)
 
 -- a map that takes different corners to different numbers keeps the balance, and keeps three corners apart
 module _ (g : ℕ → ℕ) (fs : List Face) (inj : Injective g (corners fs)) where

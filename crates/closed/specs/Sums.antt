@@ -66,6 +66,24 @@ unfolding sum
 sum-split m zero f = rw (add-zero m) (omega arith)
 sum-split m (suc n) f = rw (add-suc m n) (omega (arith, sum-split m n f))
 
+less-one : (n : ℕ) → n ≡ suc n - 1
+less-one n = omega arith
+
+-- a last term of 0 may be left out
+pub sum-less : (n : ℕ) (f : ℕ → ℕ) → (0 < n → f (n - 1) ≡ 0) → sum n f ≡ sum (n - 1) f
+unfolding sum
+sum-less zero f h = refl
+sum-less (suc n) f h =
+    let l : f n ≡ 0 = ap f (less-one n) ∙ h (omega arith) in
+    let e : sum n f ≡ sum (suc n - 1) f = ap (λ (m : ℕ). sum m f) (less-one n) in
+    omega (arith, l, e)
+
+-- m rows of n, one after the other
+pub sum-rows : (m n : ℕ) (f : ℕ → ℕ) → sum (m * n) f ≡ sum m (λ i. sum n (λ j. f (i * n + j)))
+unfolding sum
+sum-rows zero n f = ap (λ (l : ℕ). sum l f) (zero-mul n)
+sum-rows (suc m) n f = ap (λ (l : ℕ). sum l f) (suc-mul m n) ∙ sum-split (m * n) n f ∙ ap (λ (s : ℕ). s + sum n (λ j. f (m * n + j))) (sum-rows m n f)
+
 -- ---- two sums change places
 
 pub sum-swap : (m n : ℕ) (f : ℕ → ℕ → ℕ) → sum m (λ i. sum n (λ j. f i j)) ≡ sum n (λ j. sum m (λ i. f i j))
@@ -75,9 +93,6 @@ sum-swap (suc m) n f = omega (arith, sum-swap m n f, sum-add n (λ j. sum m (λ 
 
 -- ---- a shift: what f yields at i is what g yields at i + 1, g yields nothing at the first place, and f nothing at the last.
 -- (With n = 0 there is no place, and 0 - 1 is 0.)
-
-less-one : (n : ℕ) → n ≡ suc n - 1
-less-one n = omega arith
 
 pub sum-shift : (n : ℕ) (f g : ℕ → ℕ)
     → ((i : ℕ) → i + 1 < n → f i ≡ g (i + 1)) → (0 < n → g 0 ≡ 0) → (0 < n → f (n - 1) ≡ 0) → sum n f ≡ sum n g
@@ -147,3 +162,17 @@ module _ (m n p : ℕ) where
   sum3-shift-third f g step first last =
       sum-cong m _ _ (λ i bi. sum-cong n _ _ (λ j bj.
       sum-shift p (λ k. f i j k) (λ k. g i j k) (λ k bk. step i j k bi bj bk) (λ o. first i j bi bj o) (λ o. last i j bi bj o)))
+
+  -- ---- a last term of 0 along an axis may be left out
+
+  pub sum3-less-first : (f : ℕ → ℕ → ℕ → ℕ) → ((j k : ℕ) → 0 < m → j < n → k < p → f (m - 1) j k ≡ 0) → sum3 m n p f ≡ sum3 (m - 1) n p f
+  unfolding sum3
+  sum3-less-first f last = sum-less m _ (λ o. sum-nothing n _ (λ j bj. sum-nothing p _ (λ k bk. last j k o bj bk)))
+
+  pub sum3-less-second : (f : ℕ → ℕ → ℕ → ℕ) → ((i k : ℕ) → i < m → 0 < n → k < p → f i (n - 1) k ≡ 0) → sum3 m n p f ≡ sum3 m (n - 1) p f
+  unfolding sum3
+  sum3-less-second f last = sum-cong m _ _ (λ i bi. sum-less n _ (λ o. sum-nothing p _ (λ k bk. last i k bi o bk)))
+
+  pub sum3-less-third : (f : ℕ → ℕ → ℕ → ℕ) → ((i j : ℕ) → i < m → j < n → 0 < p → f i j (p - 1) ≡ 0) → sum3 m n p f ≡ sum3 m n (p - 1) f
+  unfolding sum3
+  sum3-less-third f last = sum-cong m _ _ (λ i bi. sum-cong n _ _ (λ j bj. sum-less p _ (λ o. last i j bi bj o)))

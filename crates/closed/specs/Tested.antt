@@ -12,9 +12,9 @@ use Rattle.closed.specs.Lists.{count, every, All, member, In, upto}
 use Rattle.closed.specs.Faces.{Face, corners}
 use Rattle.closed.specs.Table.{Arc, goes, flip, arcs, cubeEdges, edges, endsOf, differ, crosses, caseOf, cubeSides, Row, Table, balancedTest, apartTest, rowTest, allBits, tableTest}
 use Rattle.closed.specs.Rows.{rows, row, triangles, emitted}
-use Rattle.closed.specs.Counting.{count-append, every-all, and-true}
+use Rattle.closed.specs.Counting.{every-all, both-true}
 use Rattle.closed.specs.Renumber.{all-in, in-or-not, in-at, length-upto, at-upto}
-use Rattle.closed.specs.Arcs.{BalancedArcs, balanced-by-test, apart-by-test, count-flip, ends}
+use Rattle.closed.specs.Arcs.{BalancedArcs, balanced-by-test, apart-by-test, balanced-net, ends}
 
 -- ---- a test of all lists of n bits, at one of them
 
@@ -23,9 +23,9 @@ allBits-at zero p h [] e = h
 allBits-at zero p h (b ∷ l) e = absurd (omega arith)
 allBits-at (suc n) p h [] e = absurd (omega arith)
 allBits-at (suc n) p h (false ∷ l) e =
-    allBits-at n (λ l. p (false ∷ l)) (and-true (allBits n (λ l. p (false ∷ l))) (allBits n (λ l. p (true ∷ l))) h .0) l (omega arith)
+    allBits-at n (λ l. p (false ∷ l)) (both-true (allBits n (λ l. p (false ∷ l))) (allBits n (λ l. p (true ∷ l))) h .0) l (omega arith)
 allBits-at (suc n) p h (true ∷ l) e =
-    allBits-at n (λ l. p (true ∷ l)) (and-true (allBits n (λ l. p (false ∷ l))) (allBits n (λ l. p (true ∷ l))) h .1) l (omega arith)
+    allBits-at n (λ l. p (true ∷ l)) (both-true (allBits n (λ l. p (false ∷ l))) (allBits n (λ l. p (true ∷ l))) h .1) l (omega arith)
 
 -- ---- what is no edge of the cube does not cross
 
@@ -72,21 +72,13 @@ module _ (tri : ℕ → List Face) (b : ℕ → Bool) where
       let xs : List Arc = arcs fs ++ map flip (cubeSides b) in
       let right : Bool = every (λ e. Bool·beq (member e (corners fs)) (crosses b e)) cubeEdges in
       let known : Bool = every (λ e. member e cubeEdges) (corners fs) in
-      let t = and-true (every apartTest fs && known && right) (balancedTest xs) h in
-      let r = and-true (every apartTest fs && known) right (t .0) in
-      let u = and-true (every apartTest fs) known (r .0) in
+      let t = both-true (every apartTest fs && known && right) (balancedTest xs) h in
+      let r = both-true (every apartTest fs && known) right (t .0) in
+      let u = both-true (every apartTest fs) known (r .0) in
       record {
         exact = exact-by-test b (corners fs) (u .1) (r .1);
         apart = apart-by-test fs (u .0);
-        even = λ p q.
-            omega (
-              arith,
-              balanced-by-test xs (t .1) p q,
-              count-append (goes p q) (arcs fs) (map flip (cubeSides b)),
-              count-append (goes q p) (arcs fs) (map flip (cubeSides b)),
-              count-flip p q (cubeSides b),
-              count-flip q p (cubeSides b),
-            );
+        even = balanced-net (arcs fs) (cubeSides b) (balanced-by-test xs (t .1));
       }
 
 -- the corners of a case, as a list
@@ -109,3 +101,11 @@ unfolding member
 sides-known b =
     every-all (λ e. member e cubeEdges) (ends (cubeSides b))
     (allBits-at 8 (λ l. every (λ e. member e cubeEdges) (ends (cubeSides (λ c. getD l c false)))) refl (eight b) refl)
+
+-- a row uses the cube's edges alone
+pub exact-known : (b : ℕ → Bool) (e : ℕ) → In e (corners (emitted (caseOf b))) → In e cubeEdges
+exact-known b e m = by-cases (decLt e 12)
+  where
+    by-cases : Dec (e < 12) → In e cubeEdges
+    by-cases (yes p) = in-cubeEdges e p
+    by-cases (no p) = absurd (true≢false (sym m ∙ table-rule b .exact e ∙ crosses-none b e (omega arith)))

@@ -1,15 +1,16 @@
 -- A face that is turned runs the other way, so turning all faces keeps the balance and keeps three corners apart; faces written out flat read back as they
 -- were; and a face with three different corners has each of its directed pairs once. Assumes nothing.
 use mathlib.Core.Path.{_≡_, refl, sym, ap, ap₂, _∙_}
-use mathlib.Core.Bool.{Bool, true, false, _||_}
+use mathlib.Core.Bool.{Bool, true, false, _||_, and-comm}
 use mathlib.Core.List.{List, [], _∷_, _++_, map}
 use Prim.Native.Nat.{ℕ, zero, suc, _+_, _*_, _<_}
 use native.Mathlib.Omega.{arith}
+use borrow.Author.Tests.{eqb-true}
 use lib.Dec.{eqb}
 use lib.ListN.{length, getD}
 use Rattle.closed.specs.Lists.{bit, count, All}
 use Rattle.closed.specs.Faces.{Face, face, pair, runs, Balanced, Apart, turn, corners, faces}
-use Rattle.closed.specs.Counting.{eqb-equal, and-swap, and-true, count-cong, count-map, all-of, all-map, all-map-map}
+use Rattle.closed.specs.Counting.{both-true, count-cong, count-map, all-of, all-map, all-map-map}
 
 -- ---- turned faces
 
@@ -29,7 +30,7 @@ or-three p q r p′ q′ r′ e f g = ap₂ (λ (s t : Bool). s || t) (ap₂ (λ
 pub runs-turn : (a b : ℕ) (f : Face) → runs a b (turn f) ≡ runs b a f
 runs-turn a b (face x y z) =
     or-three (pair a b x z) (pair a b z y) (pair a b y x) (pair b a x y) (pair b a y z) (pair b a z x)
-    (and-swap (eqb x a) (eqb z b)) (and-swap (eqb z a) (eqb y b)) (and-swap (eqb y a) (eqb x b))
+    (and-comm (eqb x a) (eqb z b)) (and-comm (eqb z a) (eqb y b)) (and-comm (eqb y a) (eqb x b))
 
 pub turn-turn : (f : Face) → turn (turn f) ≡ f
 turn-turn (face x y z) = refl
@@ -103,7 +104,7 @@ at-most-one false false true h k l = refl
 at-most-one false false false h k l = refl
 
 pub pair-true : (a b x y : ℕ) → pair a b x y ≡ true → (x ≡ a) × (y ≡ b)
-pair-true a b x y e = let t = and-true (eqb x a) (eqb y b) e in (eqb-equal x a (t .0), eqb-equal y b (t .1))
+pair-true a b x y e = let t = both-true (eqb x a) (eqb y b) e in (eqb-true x a (t .0), eqb-true y b (t .1))
 
 pub passes-runs : (a b : ℕ) (f : Face) → Apart f → passes a b f ≡ bit (runs a b f)
 passes-runs a b (face x y z) h =
