@@ -1,8 +1,11 @@
 // Document 01, "Arithmetic": the functions. Each is total, and its contract is an equation with a definition of the crate `numbers`.
 mod pick;
+mod root;
 
 pub use numbers::canonical32;
 pub use numbers::canonical64;
 pub use numbers::widen;
 pub use pick::clamp32;
 pub use pick::clamp64;
+pub use root::root32;
+pub use root::root64;
