@@ -1,7 +1,9 @@
 // Document 01, "Arithmetic": the functions. Each is total, and its contract is an equation with a definition of the crate `numbers`.
+mod narrowing;
 mod pick;
 mod root;
 
+pub use narrowing::narrow;
 pub use numbers::canonical32;
 pub use numbers::canonical64;
 pub use numbers::widen;

@@ -11,3 +11,7 @@ pub mod RootDivide
 pub mod RootPattern
 pub mod RootCases
 pub mod RootPoints
+pub mod NarrowKeeps
+pub mod ClosestAdd
+pub mod NarrowPattern
+pub mod NarrowPoints

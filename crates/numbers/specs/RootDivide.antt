@@ -2,7 +2,7 @@
 -- The reason is the balance n + q ^ 2 = (s * a + q) ^ 2 + over * a, where `over` is the remainder of the division. Assumes nothing.
 use mathlib.Core.Path.{_≡_, sym, ap, _∙_}
 use Prim.Native.Nat.{ℕ, _+_, _-_, _*_, _/_, _%_, _^_, _≤_, _<_}
-use native.Mathlib.Nat.{le-trans, le-of-eq, lt-of-lt-of-le, lt-of-le-of-lt, mul-comm, mul-assoc, mul-left-comm, mul-right-comm, le-mul-of-pos-right, mul-mul-mul-comm, add-mul, mul-le-mul, mul-le-mul-left, mul-le-mul-right, mul-lt-mul-of-pos-right, le-of-mul-le-mul-right, div-mul-le-self, lt-div-mul-add}
+use native.Mathlib.Nat.{le-trans, le-of-eq, lt-of-lt-of-le, lt-of-le-of-lt, mul-comm, mul-assoc, mul-right-comm, le-mul-of-pos-right, mul-mul-mul-comm, add-mul, mul-le-mul, mul-le-mul-left, mul-le-mul-right, mul-lt-mul-of-pos-right, le-of-mul-le-mul-right, div-mul-le-self, lt-div-mul-add}
 use native.Mathlib.Omega.{arith}
 use lib.Pow.{pow-add, pow-pos, pow-mono, shl-lt}
 use Rattle.numbers.specs.Binary.{double}
@@ -89,7 +89,7 @@ module _ (n t s a : ℕ) (k : Split n t s a) where
         let n-is : n ≡ s * s * (a * a) + d * (a * a) = sym (k .all) ∙ ap (λ (y : ℕ). y * (a * a)) t-is ∙ add-mul (s * s) d (a * a) in
         let rest-is : d * (a * a) ≡ (q * (s * 2) + over) * a = sym (mul-assoc d a a) ∙ ap (λ (y : ℕ). y * a) (sym r ∙ parts) in
         let open-is : (q * (s * 2) + over) * a ≡ q * (s * 2) * a + over * a = add-mul (q * (s * 2)) over a in
-        let mix : q * (s * 2) * a ≡ 2 * (s * a * q) = simp (mul-assoc, mul-comm, mul-left-comm) in
+        let mix : q * (s * 2) * a ≡ 2 * (s * a * q) = simp (mul-assoc, mul-comm) in
         let sq : (s * a + q) * (s * a + q) ≡ s * a * (s * a) + 2 * (s * a * q) + q * q = square-sum (s * a) q in
         let ss : s * a * (s * a) ≡ s * s * (a * a) = mul-mul-mul-comm s a s a in
         omega arith

@@ -4,7 +4,7 @@ use mathlib.Core.Path.{_≡_, refl, sym, ap, _∙_}
 use mathlib.Core.Logic.{_⊎_, inl, inr}
 use mathlib.Core.Bool.{Bool, _&&_}
 use Prim.Native.Nat.{ℕ, zero, suc, _+_, _-_, _*_, _%_, _^_, _≤_, _<_}
-use native.Mathlib.Nat.{le-trans, le-of-eq, le-of-lt, lt-of-lt-of-le, lt-of-le-of-lt, eq-zero-or-pos, zero-mul, one-mul, mul-one, mul-assoc, mul-le-mul-right, lt-of-mul-lt-mul-right, eq-of-mul-eq-mul-right}
+use native.Mathlib.Nat.{le-trans, le-of-eq, le-of-lt, lt-of-lt-of-le, lt-of-le-of-lt, eq-zero-or-pos, zero-mul, one-mul, mul-one, mul-comm, mul-assoc, mul-right-comm, mul-le-mul-right, mul-lt-mul-of-pos-right, lt-of-mul-lt-mul-right, eq-of-mul-eq-mul-right}
 use native.Mathlib.Omega.{arith}
 use lib.IntN.{ℤ, pos, negsuc}
 use lib.Dec.{T, ltb, leb, eqb, ltb→lt, leb→le}
@@ -96,3 +96,16 @@ digits-of f (fin t (suc m) e) s Y h v =
       few = H .digits;
       is = value-once (fin t (suc m) e) s t (2 ^ low f) Y (suc m * 2 ^ p .0) v (refl, place-of f (suc m) e (p .0) (p .1));
     }
+
+-- a finite value of the format is a whole number of units, and below 2 ^ (emax + 1)
+pub in-units : (f : Format) (s : Bool) (m : ℕ) (e : ℤ) → T (fits f (fin s m e)) → (Y : ℕ) × HasValue (fin s m e) s Y (2 ^ low f) × (Y < 2 ^ (low f + suc (emax f)))
+in-units f s zero e h = (0, (refl, ap (λ (y : ℕ). y * 2 ^ low f) (zero-mul (up e)) ∙ zero-mul (2 ^ low f) ∙ sym (zero-mul (down e))), pow-pos (low f + suc (emax f)))
+in-units f s (suc m) e h =
+    let H = held f s m e h in
+    let p = place (low f) e (H .low-end) in
+    let is = place-of f (suc m) e (p .0) (p .1) in
+    let top : 2 ^ suc (emax f) * down e * 2 ^ low f ≡ 2 ^ (low f + suc (emax f)) * down e =
+    mul-right-comm (2 ^ suc (emax f)) (down e) (2 ^ low f) ∙ ap (λ (y : ℕ). y * down e) (mul-comm (2 ^ suc (emax f)) (2 ^ low f) ∙ sym (pow-add 2 (low f) (suc (emax f)))) in
+    let under : suc m * 2 ^ p .0 < 2 ^ (low f + suc (emax f)) =
+    lt-of-mul-lt-mul-right (down e) (lt-of-le-of-lt (le-of-eq (sym is)) (lt-of-lt-of-le (mul-lt-mul-of-pos-right (H .high-end) (pow-pos (low f))) (le-of-eq top))) in
+    (suc m * 2 ^ p .0, (refl, is), under)
