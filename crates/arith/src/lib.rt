@@ -1,7 +1,10 @@
 // Document 01, "Arithmetic": the functions. Each is total, and its contract is an equation with a definition of the crate `numbers`.
 mod patterns;
+mod narrowing;
 mod pick;
+mod root;
 
+pub use narrowing::narrow;
 pub use numbers::canonical32;
 pub use numbers::canonical64;
 pub use numbers::widen;
@@ -11,3 +14,5 @@ pub use patterns::pattern32;
 pub use patterns::pattern64;
 pub use pick::clamp32;
 pub use pick::clamp64;
+pub use root::root32;
+pub use root::root64;
