@@ -1,8 +1,15 @@
 // Document 01, "Arithmetic": the functions. Each is total, and its contract is an equation with a definition of the crate `numbers`.
 mod pick;
+mod steps;
 
 pub use numbers::canonical32;
 pub use numbers::canonical64;
 pub use numbers::widen;
 pub use pick::clamp32;
 pub use pick::clamp64;
+pub use pick::largest;
+pub use pick::least;
+pub use pick::sign;
+pub use steps::ceiling;
+pub use steps::floor;
+pub use steps::to_whole;

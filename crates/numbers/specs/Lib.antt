@@ -3,3 +3,7 @@ pub mod Arithmetic
 pub mod Opposite
 pub mod Comparing
 pub mod Symmetry
+pub mod Signs
+pub mod Casts
+pub mod Series
+pub mod Steps
