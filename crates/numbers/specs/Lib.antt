@@ -7,3 +7,6 @@ pub mod Signs
 pub mod Casts
 pub mod Series
 pub mod Steps
+pub mod Whole
+pub mod Between
+pub mod Floors
