@@ -3,6 +3,7 @@ mod patterns;
 mod narrowing;
 mod pick;
 mod root;
+mod steps;
 
 pub use narrowing::narrow;
 pub use numbers::canonical32;
@@ -16,3 +17,9 @@ pub use pick::clamp32;
 pub use pick::clamp64;
 pub use root::root32;
 pub use root::root64;
+pub use pick::largest;
+pub use pick::least;
+pub use pick::sign;
+pub use steps::ceiling;
+pub use steps::floor;
+pub use steps::to_whole;
