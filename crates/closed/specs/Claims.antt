@@ -2,7 +2,7 @@
 -- Numbering, Table, Rows, Grid. `gridFaces nx ny nz below` are the faces over edge numbers of a grid whose node i j k is below the level where `below i j k`
 -- says so, `mesh` the same faces over vertex numbers, `used` the edges of the vertices in their order. Each claim is proved by the laws it cites.
 -- Assumes nothing.
-use mathlib.Core.Path.{_≡_, sym, ap, ap₂, _∙_}
+use mathlib.Core.Path.{_≡_, sym, ap, _∙_}
 use mathlib.Core.Bool.{Bool}
 use mathlib.Core.List.{List, map}
 use Prim.Native.Nat.{ℕ, _+_, _-_, _≤_, _<_}

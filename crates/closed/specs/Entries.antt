@@ -2,7 +2,7 @@
 -- whole triples, at most five, which are emitted in their order. What all rows have in common is computed once. Assumes nothing.
 use mathlib.Core.Path.{_≡_, refl, sym, ap, _∙_, subst}
 use mathlib.Core.Logic.{_⊎_, inl, inr, ⊎-elim}
-use mathlib.Core.Bool.{Bool, true, false, _&&_}
+use mathlib.Core.Bool.{Bool, true, _&&_}
 use mathlib.Core.List.{List, [], _∷_, map}
 use Prim.Native.Nat.{ℕ, zero, suc, _+_, _*_, _≤_, _<_, zero-le}
 use native.Mathlib.Nat.{zero-add, suc-add}
@@ -13,11 +13,11 @@ use lib.Dec.{eqb, leb, lit<}
 use lib.IntN.{ℤ, pos, negsuc}
 use lib.ListN.{length, getD, length-map, List·getD-map, List·getD-eq-default}
 use lib.Signed.{mag, ltZ}
-use Rattle.closed.specs.Lists.{every, All}
-use Rattle.closed.specs.Faces.{Face, face, faces, corners, turn}
+use Rattle.closed.specs.Lists.{every}
+use Rattle.closed.specs.Faces.{face, faces, turn}
 use Rattle.closed.specs.Rows.{rows, row, triangles, emitted, entry, pad, flat, flatTable}
 use Rattle.closed.specs.Counting.{every-all, all-at, at-map, both-true}
-use Rattle.closed.specs.Turning.{face-at, length-corners, corners-faces}
+use Rattle.closed.specs.Turning.{face-at, corners-faces}
 
 -- ---- what all rows have in common
 

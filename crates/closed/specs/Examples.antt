@@ -2,14 +2,14 @@
 -- Nothing cites this file. Assumes nothing.
 use mathlib.Core.Path.{_≡_, refl}
 use mathlib.Core.Bool.{Bool, true, false, _&&_}
-use mathlib.Core.List.{List, [], _∷_, map}
+use mathlib.Core.List.{List, [], _∷_}
 use Prim.Native.Nat.{ℕ, _+_, _*_}
 use native.Mathlib.Omega.{arith}
-use lib.IntN.{ℤ, pos, negsuc}
+use lib.IntN.{pos, negsuc}
 use lib.ListN.{length}
 use lib.Dec.{eqb}
 use Rattle.closed.specs.Lists.{count, member, sum, sum3, cells, cells3}
-use Rattle.closed.specs.Faces.{Face, face, Balanced, turn}
+use Rattle.closed.specs.Faces.{Face, face, Balanced}
 use Rattle.closed.specs.Numbering.{indexOf, note, grow, dedup, used, mesh}
 use Rattle.closed.specs.Table.{arc, arcs, balancedTest, lowX, lowOf, axisOf}
 use Rattle.closed.specs.Rows.{rows, row, triangles, emitted, entry}

@@ -1,4 +1,5 @@
 pub mod Arcs
+pub mod Bounds
 pub mod Cells
 pub mod Claims
 pub mod Closed

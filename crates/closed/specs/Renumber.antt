@@ -86,12 +86,6 @@ indexOf-lt x (y ∷ l) h =
     (λ n. omega (arith, index-there x y l (n .1), indexOf-lt x l (in-rest x y l (n .0) h)))
     (same? x y)
 
-pub indexOf-le : (x : ℕ) (l : List ℕ) → indexOf x l ≤ length l
-unfolding indexOf
-indexOf-le x [] = omega arith
-indexOf-le x (y ∷ l) =
-    ⊎-elim (λ e. omega (arith, index-here x y l (e .1))) (λ n. omega (arith, index-there x y l (n .1), indexOf-le x l)) (same? x y)
-
 -- a number in the list stands at its place
 pub at-indexOf : (x : ℕ) (l : List ℕ) (d : ℕ) → In x l → getD l (indexOf x l) d ≡ x
 at-indexOf x [] d h = absurd (not-in-nil x h)
