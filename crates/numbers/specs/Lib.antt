@@ -15,3 +15,4 @@ pub mod NarrowKeeps
 pub mod ClosestAdd
 pub mod NarrowPattern
 pub mod NarrowPoints
+pub mod RoundNearest
