@@ -16,3 +16,5 @@ pub mod ClosestAdd
 pub mod NarrowPattern
 pub mod NarrowPoints
 pub mod RoundNearest
+pub mod RoundOverflow
+pub mod NarrowNearest
