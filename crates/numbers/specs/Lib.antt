@@ -10,3 +10,5 @@ pub mod Steps
 pub mod Whole
 pub mod Between
 pub mod Floors
+pub mod Commuting
+pub mod OppositeKept
