@@ -1,4 +1,5 @@
 // Document 01, "Arithmetic": the functions. Each is total, and its contract is an equation with a definition of the crate `numbers`.
+mod exponential;
 mod narrowing;
 mod patterns;
 mod pick;
