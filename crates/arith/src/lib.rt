@@ -6,6 +6,7 @@ mod pick;
 mod root;
 mod steps;
 
+pub use exponential::exp_neg;
 pub use narrowing::narrow;
 pub use numbers::canonical32;
 pub use numbers::canonical64;
