@@ -55,7 +55,7 @@ fn answer(op: Operation, pattern: u64) -> u64 {
         }
         Operation::Root64 => arith::pattern64(arith::root64(x)),
         Operation::Narrow => arith::pattern32(arith::narrow(x)) as u64,
-        Operation::ExpNeg => arith::pattern32(arith::narrow(x)) as u64,
+        Operation::ExpNeg => arith::pattern32(arith::exp_neg(x)) as u64,
         Operation::Floor => arith::pattern64(arith::floor(x)),
         Operation::Ceiling => arith::pattern64(arith::ceiling(x)),
         Operation::Sign => arith::pattern64(arith::sign(x)),
