@@ -1,6 +1,6 @@
-// Replays a list of worked values through the functions of `arith`, and prints what differs and a count. The list, `stdin`, has an operation,
-// its argument and its answer on each line, as bit patterns: made by the Rust of 01's oracle, whose square root, narrowing, floor, ceiling, sign
-// and clamp are Rust's own and whose exponential is 01's rule. docs/PROMISES.md says more.
+// Replays a list of worked values through the functions of `arith`, and prints what differs and a count. Each line of `stdin` has an operation,
+// its argument and its answer, as bit patterns. The list was written by a Rust program: square root, narrowing, floor, ceiling, sign and clamp are
+// Rust's own, the exponential is 01's rule. Where Rust hands a NaN's payload through, the answer was rewritten as 01 stores it.
 ghost use Prim.Native.Nat.{_<_, _≤_};
 ghost use lib.ListN.{length};
 use libc::STDIN_FILENO;

@@ -28,16 +28,6 @@ pub mod NarrowKeeps
 pub mod ClosestAdd
 pub mod NarrowPattern
 pub mod NarrowPoints
-pub mod Opposite
-pub mod Comparing
-pub mod Symmetry
-pub mod Signs
-pub mod Casts
-pub mod Series
-pub mod Steps
-pub mod Whole
-pub mod Between
-pub mod Floors
 pub mod RoundNearest
 pub mod RoundOverflow
 pub mod NarrowNearest
