@@ -1,0 +1,15 @@
+pub mod Arcs
+pub mod Closed
+pub mod Counting
+pub mod Faces
+pub mod Grid
+pub mod Lists
+pub mod Loops
+pub mod Mesh
+pub mod Numbering
+pub mod Renumber
+pub mod Rows
+pub mod Sums
+pub mod Table
+pub mod Turning
+pub mod Tested
