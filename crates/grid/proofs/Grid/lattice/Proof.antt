@@ -1,0 +1,12 @@
+-- `grid::Grid::lattice` meets its contract: it is the definition. Assumes nothing.
+use mathlib.Core.Path.{refl}
+use Rattle.grid.specs.Grid.{latticeOf}
+use Rattle.grid.proofs.Grid.lattice.Statement.{statement}
+use Rattle.grid.proofs.Grid.lattice.Tie as tie
+
+returns : tie.Need-returns
+unfolding latticeOf
+returns c = refl
+
+pub lattice-spec : {M : Type 1} → statement M
+lattice-spec = tie.close (tie.spec returns)
