@@ -7,7 +7,7 @@ use mathlib.Core.List.{List, map}
 use Prim.Native.Nat.{ℕ, _+_, _-_, _*_, _<_}
 use Rattle.closed.specs.Lists.{bit, sum3, cells3}
 use Rattle.closed.specs.Faces.{Face, mapFace}
-use Rattle.closed.specs.Table.{cornerAt, axisOf, lowOf, caseOf, differ}
+use Rattle.closed.specs.Table.{Arc, mapArc, cornerAt, axisOf, lowOf, caseOf, differ}
 use Rattle.closed.specs.Rows.{emitted}
 
 -- ---- the numbers of nodes and edges
@@ -41,6 +41,10 @@ cellFaces ny nz below i j k = map (mapFace (cellEdge ny nz i j k)) (emitted (cel
 -- all cells, in the order i, j, k
 unfoldable pub gridFaces : (nx ny nz : ℕ) (below : ℕ → ℕ → ℕ → Bool) → List Face
 gridFaces nx ny nz below = cells3 (nx - 1) (ny - 1) (nz - 1) (cellFaces ny nz below)
+
+-- what one of the cell's sides yields, over the grid's edges
+abbrev pub onGrid : (ny nz i j k : ℕ) → List Arc → List Arc
+onGrid ny nz i j k xs = map (mapArc (cellEdge ny nz i j k)) xs
 
 -- ---- the crossed edges: one end is below the level and the other is not
 

@@ -3,27 +3,20 @@
 -- By induction on the list, by cases of whether a number is noted. Assumes nothing.
 use mathlib.Core.Path.{_≡_, refl, sym, ap, ap₂, _∙_, subst}
 use mathlib.Core.Logic.{_≢_, _⊎_, inl, inr, ⊎-elim}
-use mathlib.Core.Bool.{Bool, true, false, cond, _||_, true≢false, false≢true}
-use mathlib.Core.List.{List, [], _∷_, _++_, map, append-assoc, append-nil}
+use mathlib.Core.Bool.{Bool, true, false, cond, _||_, true≢false, false≢true, or-assoc, or-false}
+use mathlib.Core.List.{List, [], _∷_, _++_, map, map-append, append-assoc, append-nil}
 use Prim.Native.Nat.{ℕ, zero, suc, _≤_, _<_}
 use native.Mathlib.Decide.{decLt}
 use native.Mathlib.Omega.{arith}
+use borrow.Author.Tests.{eq-eqb, ne-eqb}
 use lib.Dec.{eqb}
 use lib.ListN.{length, getD, length-append, length-map, List·getD-append}
 use lib.Seq.{getD-append-seam, getD-at, ext-getD}
 use Rattle.closed.specs.Lists.{All, member, In, upto}
 use Rattle.closed.specs.Numbering.{note, grow, dedup, indexOf, slot, NoRepeat, Injective}
-use Rattle.closed.specs.Counting.{same?, eqb-same, eqb-differ, eqb-map}
+use Rattle.closed.specs.Counting.{same?, eqb-map, at-map}
 
 -- ---- membership
-
-or-assoc : (p q r : Bool) → (p || q || r) ≡ (p || (q || r))
-or-assoc true q r = refl
-or-assoc false q r = refl
-
-or-false : (p : Bool) → (p || false) ≡ p
-or-false true = refl
-or-false false = refl
 
 or-right : (p q : Bool) → q ≡ true → (p || q) ≡ true
 or-right true q e = refl
@@ -45,7 +38,7 @@ not-in-nil x h = false≢true h
 
 pub in-head : (x : ℕ) (l : List ℕ) → In x (x ∷ l)
 unfolding member
-in-head x l = or-left (eqb x x) (member x l) (eqb-same x)
+in-head x l = or-left (eqb x x) (member x l) (eq-eqb x x refl)
 
 pub in-tail : (x y : ℕ) (l : List ℕ) → In x l → In x (y ∷ l)
 unfolding member
@@ -93,12 +86,6 @@ indexOf-lt x (y ∷ l) h =
     (λ n. omega (arith, index-there x y l (n .1), indexOf-lt x l (in-rest x y l (n .0) h)))
     (same? x y)
 
-pub indexOf-le : (x : ℕ) (l : List ℕ) → indexOf x l ≤ length l
-unfolding indexOf
-indexOf-le x [] = omega arith
-indexOf-le x (y ∷ l) =
-    ⊎-elim (λ e. omega (arith, index-here x y l (e .1))) (λ n. omega (arith, index-there x y l (n .1), indexOf-le x l)) (same? x y)
-
 -- a number in the list stands at its place
 pub at-indexOf : (x : ℕ) (l : List ℕ) (d : ℕ) → In x l → getD l (indexOf x l) d ≡ x
 at-indexOf x [] d h = absurd (not-in-nil x h)
@@ -134,7 +121,7 @@ indexOf-append x (y ∷ l) m h =
 -- a number that is not in l, put behind it, has the place `length l`
 pub indexOf-new : (x : ℕ) (l m : List ℕ) → member x l ≡ false → indexOf x (l ++ (x ∷ m)) ≡ length l
 unfolding member
-indexOf-new x [] m h = index-here x x m (eqb-same x)
+indexOf-new x [] m h = index-here x x m (eq-eqb x x refl)
 indexOf-new x (y ∷ l) m h =
     ⊎-elim
     (λ e. absurd (true≢false (sym (or-left (eqb x y) (member x l) (e .1)) ∙ h)))
@@ -304,7 +291,7 @@ slot-note-other seen x e d =
     (in-or-not e seen)
   where
     m : member e (note seen x) ≡ member e seen
-    m = member-note e seen x ∙ ap (λ (t : Bool). member e seen || t) (eqb-differ e x d) ∙ or-false (member e seen)
+    m = member-note e seen x ∙ ap (λ (t : Bool). member e seen || t) (ne-eqb e x d) ∙ or-false (member e seen)
 
 pub length-note-new : (seen : List ℕ) (x : ℕ) → member x seen ≡ false → length (note seen x) ≡ suc (length seen)
 length-note-new seen x n = ap length (note-new seen x n) ∙ omega (arith, length-append seen (x ∷ []))
@@ -344,10 +331,6 @@ in-append-cases x (y ∷ l) m h =
     (in-cases x y (l ++ m) h)
 
 -- ---- a list whose numbers are renamed one to one keeps its order of first use
-
-map-append : (g : ℕ → ℕ) (l m : List ℕ) → map g (l ++ m) ≡ map g l ++ map g m
-map-append g [] m = refl
-map-append g (x ∷ l) m = ap (λ (r : List ℕ). g x ∷ r) (map-append g l m)
 
 note-map : (g : ℕ → ℕ) (seen : List ℕ) (x : ℕ) → ((y : ℕ) → In y seen → g y ≡ g x → y ≡ x) → note (map g seen) (g x) ≡ map g (note seen x)
 note-map g seen x inj =
@@ -402,18 +385,13 @@ at-upto (suc n) i d h = by-cases (at-upto n i d) (decLt i n)
         let e : i ≡ n = omega arith in
         getD-at (upto n) n [] d i (length-upto n ∙ sym e) ∙ sym e
 
-pub at-map : (g : ℕ → ℕ) (l : List ℕ) (i d : ℕ) → i < length l → getD (map g l) i d ≡ g (getD l i d)
-at-map g [] i d h = absurd (omega arith)
-at-map g (x ∷ l) zero d h = refl
-at-map g (x ∷ l) (suc i) d h = at-map g l i d (omega arith)
-
 pub map-indexOf : (l : List ℕ) → NoRepeat l → map (λ e. indexOf e l) l ≡ upto (length l)
 map-indexOf l u =
     ext-getD 0 (map (λ e. indexOf e l) l) (upto (length l))
     (length-map l (λ e. indexOf e l) ∙ sym (length-upto (length l)))
     (λ i h.
     let b : i < length l = omega (arith, length-map l (λ e. indexOf e l)) in
-    at-map (λ e. indexOf e l) l i 0 b ∙ indexOf-at l u i b ∙ sym (at-upto (length l) i 0 b))
+    at-map (λ e. indexOf e l) l i 0 0 b ∙ indexOf-at l u i b ∙ sym (at-upto (length l) i 0 b))
 
 -- the place of a number, renamed
 
