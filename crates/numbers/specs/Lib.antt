@@ -1,6 +1,21 @@
 -- Document 01's Arithmetic: the definitions, then what is proved of them.
 pub mod Arithmetic
 pub mod NanTest
+pub mod Binary
+pub mod Squares
+pub mod RootWhole
+pub mod RootOrder
+pub mod Patterns
+pub mod Spacing
+pub mod RootNearest
+pub mod RootDivide
+pub mod RootPattern
+pub mod RootCases
+pub mod RootPoints
+pub mod NarrowKeeps
+pub mod ClosestAdd
+pub mod NarrowPattern
+pub mod NarrowPoints
 pub mod Opposite
 pub mod Comparing
 pub mod Symmetry
@@ -8,3 +23,6 @@ pub mod Signs
 pub mod Casts
 pub mod Series
 pub mod Steps
+pub mod Whole
+pub mod Between
+pub mod Floors

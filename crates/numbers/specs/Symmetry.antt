@@ -1,7 +1,7 @@
 -- The sign goes through: each operation of negated operands gives the negated result, or the same truth value of the operands in the other order.
 -- Rounding has no direction, so the sign of a fraction stays aside; only a sum that is exactly zero is +0 both times. Assumes nothing.
 use mathlib.Core.Path.{_≡_, refl, sym, ap, _∙_}
-use mathlib.Core.Bool.{Bool, true, false, not, _&&_, _||_, Bool·beq, cond}
+use mathlib.Core.Bool.{Bool, true, false, not, _&&_, _||_, Bool·beq, cond, true≢false}
 use mathlib.Core.Logic.{inl, inr}
 use Prim.Native.Nat.{ℕ, zero, suc, _+_, _-_, _*_, _/_, _%_, _^_, _<_}
 use native.Mathlib.Nat.{add-comm, mul-pos, zero-mul}
@@ -13,7 +13,7 @@ use lib.Ieee.{Float, nan, inf, fin, Format, binary32, binary64, prec, emax, low,
 use lib.Ieee.Fits.{round-is, down-pos}
 use lib.Ieee.Scale.{round-same}
 use Rattle.numbers.specs.Arithmetic.{narrowed, stepped, floored, ceiled, clamped, signed, least, largest}
-use Rattle.numbers.specs.Comparing.{eq-sym}
+use Rattle.numbers.specs.Comparing.{eq-sym, lt-trans}
 use Rattle.numbers.specs.Opposite.{NegatedOrZero}
 
 -- ---- rounding
@@ -258,3 +258,13 @@ least-neg x y = rw (isNan-neg x, lt-neg y x) (cond-neg (isNan x || lt x y) y x)
 
 pub largest-neg : (x y : Float) → largest (neg x) (neg y) ≡ neg (least x y)
 largest-neg x y = rw (isNan-neg x, lt-neg x y) (cond-neg (isNan x || lt y x) y x)
+
+-- where the ends are not in the wrong order, so that no x lies beyond both
+pub clamped-neg : (x lo hi : Float) → lt hi lo ≡ false → clamped (neg x) (neg hi) (neg lo) ≡ neg (clamped x lo hi)
+clamped-neg x lo hi h = rw (lt-neg x hi, lt-neg lo x) (go (lt hi x) (lt x lo) refl refl)
+  where
+    go : (p q : Bool) → lt hi x ≡ p → lt x lo ≡ q → cond p (neg hi) (cond q (neg lo) (neg x)) ≡ neg (cond q lo (cond p hi x))
+    go true true u v = absurd (true≢false (sym (lt-trans hi x lo u v) ∙ h))
+    go true false u v = refl
+    go false true u v = refl
+    go false false u v = refl
