@@ -1,16 +1,14 @@
 -- The cell of any place lies in the cube, and so do its corners: the cell is at most n-2 whatever the floor is. Assumes nothing.
 use mathlib.Core.Path.{_≡_, refl}
 use mathlib.Core.List.{List, [], _∷_}
-use Prim.Native.Nat.{ℕ, _+_, _-_, _*_, _/_, _%_, _<_, min}
+use Prim.Native.Nat.{ℕ, _+_, _*_, _<_}
 use native.Mathlib.Omega.{arith}
 use lib.ListN.{getD}
-use lib.Ieee.{Float, toUnsigned}
-use Rattle.numbers.specs.Arithmetic.{floored}
-use Rattle.grid.specs.declared.Along.{Along}
+use lib.Ieee.{Float}
 use Rattle.grid.specs.declared.Cell.{Cell}
 use Rattle.grid.specs.declared.Grid.{Grid}
-use Rattle.grid.specs.Grid.{Sides, Inside, Position, placed, cellOf, alongOf, cellAt, offsetsOf, cornerAt}
-use Rattle.grid.specs.Numbering.{node-below}
+use Rattle.grid.specs.Grid.{Sides, Inside, Position, alongOf, cellAt, offsetsOf, cornerAt}
+use Rattle.closed.specs.Crossings.{node-lt}
 
 pub along-below : {n : ℕ} (o h p : Float) → Sides n → alongOf n o h p .cell + 1 < n
 unfolding alongOf
@@ -29,4 +27,4 @@ corner-in {n} {q} c h e = rw e (record { i = omega arith; j = omega arith; k = o
 
 pub corner-below : {n : ℕ} {q : Cell} (c : ℕ) → Inside n q → cornerAt n q c < n * n * n
 unfolding cornerAt
-corner-below c h = let at = corner-in c h refl in node-below (at .i) (at .j) (at .k)
+corner-below c h = let at = corner-in c h refl in node-lt _ _ _ _ _ _ (at .i) (at .j) (at .k)

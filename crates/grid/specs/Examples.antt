@@ -5,7 +5,6 @@ use lib.IntN.{pos, negsuc}
 use lib.Ieee.{nan, inf, fin, binary64, ofBits, ofInt, toUnsigned, neg, add, sub, div, lt, round}
 use Rattle.numbers.specs.Arithmetic.{one64, floored, stepped}
 use Rattle.closed.specs.Grid.{node, edge}
-use Rattle.grid.specs.declared.Along.{Along}
 use Rattle.grid.specs.Grid.{placed, alongOf}
 
 -- P10: n = 8: node (1,2,3) is 83, its axis-2 edge 251

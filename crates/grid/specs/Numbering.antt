@@ -1,20 +1,17 @@
 -- Numbers and positions undo each other and stay in range. A node's number has its position as digits, to the bases ny and nz, and an edge's number has its axis as
--- the last digit to base 3: by `digits-div`, `digits-mod` and `digits-lt` of lib.Arith. One to one they are by that. Assumes nothing.
+-- the last digit to base 3. That a node's number is below nx * ny * nz (`node-lt`), and that nodes and edges are one to one with their numbers (`node-unique`,
+-- `edge-unique`), stands in Crossings of the crate `closed`. Assumes nothing.
 use mathlib.Core.Path.{_≡_, ap, _∙_}
 use mathlib.Core.List.{[], _∷_}
 use Prim.Native.Nat.{ℕ, _+_, _*_, _/_, _%_, _<_}
 use native.Mathlib.Nat.{add-assoc, add-mul, one-mul, div-add-mod'}
 use native.Mathlib.Omega.{arith}
-use lib.Arith.{digits-lt, digits-div, digits-mod}
+use lib.Arith.{digits-div, digits-mod}
 use Rattle.closed.specs.Grid.{node, edge}
 use Rattle.grid.specs.Grid.{Position, nodeAt, coordsOf, nodeOf, axisOf}
-use Rattle.grid.specs.Rows.{row-some, row-of}
+use Rattle.grid.specs.Rows.{row-of}
 
 -- ---- nodes
-
-pub node-below : {nx ny nz i j k : ℕ} → i < nx → j < ny → k < nz → node ny nz i j k < nx * ny * nz
-unfolding node
-node-below hi hj hk = digits-lt (digits-lt hi hj) hk
 
 pub coords-of-node : {ny nz : ℕ} (i : ℕ) {j k : ℕ} → j < ny → k < nz → coordsOf ny nz (node ny nz i j k) ≡ i ∷ j ∷ k ∷ []
 unfolding node

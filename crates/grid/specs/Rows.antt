@@ -1,14 +1,16 @@
 -- A slice as m rows of n elements, row r from r·n on: where a row ends, which row an element is in, and what the boundary of a cube is row by row. A loop over the
 -- rows of a cube takes m = n * n. An element's row and its place there are its digits to base n: `digits-div`, `digits-mod` and `digits-lt` of lib.Arith. Assumes nothing.
-use mathlib.Core.Path.{_≡_, refl, sym, ap, _∙_, subst}
+use mathlib.Core.Path.{_≡_, refl, subst}
 use mathlib.Core.Bool.{Bool, true, false, _||_, true≢false}
+use mathlib.Core.List.{[], _∷_}
 use Prim.Native.Nat.{ℕ, zero, suc, _+_, _-_, _*_, _/_, _%_, _<_, _≤_}
 use native.Mathlib.Nat.{not-suc-le-zero, mul-zero, suc-mul, add-mul, one-mul, mul-comm, mul-le-mul, mul-le-mul-right, mod-lt, div-lt-iff-lt-mul, div-mul-le-self, lt-mul-div-succ, le-mul-of-pos-right, div-add-mod'}
 use native.Mathlib.Omega.{arith}
 use borrow.Author.Tests.{eqb-false, eq-eqb, ne-eqb}
 use lib.Arith.{digits-div, digits-mod}
 use lib.Dec.{eqb}
-use Rattle.grid.specs.Grid.{atEnd, boundaryNode, boundaryRow}
+use Rattle.closed.specs.Grid.{node}
+use Rattle.grid.specs.Grid.{Sides, Counts, atEnd, onBoundary, boundaryNode, boundaryRow}
 
 -- ---- m rows of n elements
 
@@ -35,7 +37,11 @@ square-most h = mul-le-mul h h
 pub cube-most : {n : ℕ} → n ≤ 256 → n * n * n ≤ 16777216
 cube-most h = mul-le-mul (square-most h) h
 
--- a row is no longer than a plane, nor a plane than the cube
+-- the cube is a Lattice
+pub cube-counts : {n : ℕ} → Sides n → Counts (n ∷ n ∷ n ∷ [])
+cube-counts h = record { two-x = h .two; two-y = h .two; two-z = h .two; most = cube-most (h .most) }
+
+-- a row is no longer than a plane
 pub row-plane : {n : ℕ} → 0 < n → n ≤ n * n
 row-plane {n} h = le-mul-of-pos-right n h
 
@@ -44,6 +50,11 @@ row-plane {n} h = le-mul-of-pos-right n h
 -- the element k of the row r is on the boundary where the row is, and at the row's two ends
 pub boundary-row : (n r : ℕ) {k : ℕ} → k < n → boundaryNode n (r * n + k) ≡ boundaryRow n r || atEnd n k
 boundary-row n r h = rw (digits-div r h, digits-mod r h)
+
+-- of the node at a position
+pub boundary-node : (n i : ℕ) {j k : ℕ} → j < n → k < n → boundaryNode n (node n n i j k) ≡ onBoundary n i j k
+unfolding node
+boundary-node n i {j} hj hk = rw (digits-div (i * n + j) hk, digits-mod (i * n + j) hk, digits-div i hj, digits-mod i hj)
 
 -- ---- the ends of a row, and what is between them
 
@@ -63,6 +74,10 @@ no-end n i low high = rw (ne-eqb i 0 (λ e. omega arith), ne-eqb i (n - 1) (λ e
 or-false : (a b : Bool) → a || b ≡ false → (a ≡ false) × (b ≡ false)
 or-false true b e = absurd (true≢false e)
 or-false false b e = (refl, e)
+
+-- a node off the boundary is in such a row, and between its ends
+pub off-boundary : (n q : ℕ) → boundaryNode n q ≡ false → (boundaryRow n (q / n) ≡ false) × (atEnd n (q % n) ≡ false)
+off-boundary n q e = or-false (boundaryRow n (q / n)) (atEnd n (q % n)) e
 
 -- a count that is no end has one before it and one after it
 pub inner-count : {n i : ℕ} → i < n → atEnd n i ≡ false → (0 < i) × (i + 1 < n)

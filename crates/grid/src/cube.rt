@@ -2,7 +2,7 @@
 ghost use mathlib.Core.Path.{_≡_};
 ghost use Prim.Native.Nat.{_*_, _<_, _≤_};
 ghost use lib.ListN.{getD};
-ghost use Rattle.grid.specs.Grid.{Sides, Position, gridOf, nodeAt, coordsOf, atEnd, onBoundary, worldOf, latticeOf};
+ghost use Rattle.grid.specs.Grid.{Sides, Counts, Position, gridOf, nodeAt, coordsOf, atEnd, onBoundary, worldOf, latticeOf};
 use crate::Grid;
 use crate::Lattice;
 use crate::Node;
@@ -91,7 +91,7 @@ impl Grid {
     // The cube as a Lattice: the one function that makes it.
     pub fn lattice(self) -> Lattice
         requires { ⌜ Sides (self .nodes) ⌝ }
-        ensures { λ r. ⌜ r ≡ latticeOf self ⌝ }
+        ensures { λ r. ⌜ (r ≡ latticeOf self) × Counts (r .counts) ⌝ }
     {
         let n = self.nodes;
         let h = self.step;

@@ -1,7 +1,7 @@
 -- `grid::cell_along` meets its contract: the cast of u is its floor, and the cell the smaller of that and n-2. Assumes nothing.
-use mathlib.Core.Path.{_≡_, sym, ap, _∙_, subst}
+use mathlib.Core.Path.{_≡_}
 use mathlib.Core.Logic.{⊎-elim}
-use Prim.Native.Nat.{ℕ, _-_, min}
+use Prim.Native.Nat.{_-_, min}
 use native.Mathlib.Omega.{arith}
 use Rattle.grid.specs.Grid.{placed}
 use Rattle.grid.proofs.Counts.{count-float, along-is}
