@@ -10,6 +10,7 @@ pub mod Steps
 pub mod Whole
 pub mod Between
 pub mod Floors
+pub mod StepPoints
 pub mod Commuting
 pub mod OppositeKept
 pub mod Binary
