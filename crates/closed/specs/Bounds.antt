@@ -6,10 +6,9 @@ use Prim.Native.Nat.{ℕ, _-_, _*_, _≤_, _<_}
 use native.Mathlib.Omega.{arith}
 use lib.ListN.{length, length-map}
 use Rattle.closed.specs.Lists.{bit, member, sum, sum3}
-use Rattle.closed.specs.Faces.{turn}
 use Rattle.closed.specs.Numbering.{used}
 use Rattle.closed.specs.Table.{caseOf}
-use Rattle.closed.specs.Rows.{triangles, emitted}
+use Rattle.closed.specs.Rows.{triangles, emit, emitted}
 use Rattle.closed.specs.Grid.{cornerBelow, cellCase, gridFaces}
 use Rattle.closed.specs.Sums.{sum-le, sum-const, sum3-le, sum3-const}
 use Rattle.closed.specs.Counting.{bit-le}
@@ -33,7 +32,7 @@ faces-le nx ny nz below =
     subst (λ (n : ℕ). n ≤ (nx - 1) * ((ny - 1) * ((nz - 1) * 5))) (sym (grid-length nx ny nz below))
     (subst (λ (n : ℕ). sum3 (nx - 1) (ny - 1) (nz - 1) (λ i j k. length (triangles (cellCase below i j k))) ≤ n) (sum3-const (nx - 1) (ny - 1) (nz - 1) 5)
     (sum3-le (nx - 1) (ny - 1) (nz - 1) _ _ (λ i j k bi bj bk.
-    omega (arith, length-map (triangles (cellCase below i j k)) turn, emitted-le (cellCase below i j k) (caseOf-lt (cornerBelow below i j k))))))
+    omega (arith, length-map (triangles (cellCase below i j k)) emit, emitted-le (cellCase below i j k) (caseOf-lt (cornerBelow below i j k))))))
 
 pub vertices-le : (nx ny nz : ℕ) → 2 ≤ nx → 2 ≤ ny → 2 ≤ nz → (below : ℕ → ℕ → ℕ → Bool) → length (used (gridFaces nx ny nz below)) ≤ 3 * (nx * ny * nz)
 vertices-le nx ny nz hx hy hz below =
