@@ -1,0 +1,8 @@
+-- Lists that stand for slices: the definitions, then the laws, a file for each definition.
+pub mod Lists
+pub mod Tabulate
+pub mod Fill
+pub mod Part
+pub mod Prefix
+pub mod Padded
+pub mod Fold
