@@ -2,6 +2,7 @@
 mod patterns;
 mod pick;
 mod steps;
+mod root;
 
 pub use numbers::canonical32;
 pub use numbers::canonical64;
@@ -18,3 +19,5 @@ pub use pick::sign;
 pub use steps::ceiling;
 pub use steps::floor;
 pub use steps::to_whole;
+pub use root::root32;
+pub use root::root64;

@@ -8,3 +8,14 @@ pub mod Signs
 pub mod Casts
 pub mod Series
 pub mod Steps
+pub mod Binary
+pub mod Squares
+pub mod RootWhole
+pub mod RootOrder
+pub mod Patterns
+pub mod Spacing
+pub mod RootNearest
+pub mod RootDivide
+pub mod RootPattern
+pub mod RootCases
+pub mod RootPoints
