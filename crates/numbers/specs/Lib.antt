@@ -19,3 +19,5 @@ pub mod RootDivide
 pub mod RootPattern
 pub mod RootCases
 pub mod RootPoints
+pub mod SumOfSquares
+pub mod RootSquares
