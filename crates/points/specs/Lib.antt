@@ -6,3 +6,4 @@ pub mod Spacing
 pub mod Inner
 pub mod UsableLoop
 pub mod UsableFinite
+pub mod Examples
