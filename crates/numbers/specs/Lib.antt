@@ -31,3 +31,5 @@ pub mod NarrowPattern
 pub mod RoundNearest
 pub mod RoundOverflow
 pub mod NarrowNearest
+pub mod SumOfSquares
+pub mod RootSquares
