@@ -1,6 +1,7 @@
 // Document 01, "Arithmetic": the functions. Each is total, and its contract is an equation with a definition of the crate `numbers`.
 mod patterns;
 mod pick;
+mod steps;
 
 pub use numbers::canonical32;
 pub use numbers::canonical64;
@@ -11,3 +12,9 @@ pub use patterns::pattern32;
 pub use patterns::pattern64;
 pub use pick::clamp32;
 pub use pick::clamp64;
+pub use pick::largest;
+pub use pick::least;
+pub use pick::sign;
+pub use steps::ceiling;
+pub use steps::floor;
+pub use steps::to_whole;
