@@ -2,7 +2,11 @@
 mod patterns;
 mod pick;
 mod steps;
+mod narrowing;
+mod pick;
+mod root;
 
+pub use narrowing::narrow;
 pub use numbers::canonical32;
 pub use numbers::canonical64;
 pub use numbers::widen;
@@ -18,3 +22,5 @@ pub use pick::sign;
 pub use steps::ceiling;
 pub use steps::floor;
 pub use steps::to_whole;
+pub use root::root32;
+pub use root::root64;
