@@ -1,10 +1,9 @@
 // Document 01, "Arithmetic": the functions. Each is total, and its contract is an equation with a definition of the crate `numbers`.
+mod narrowing;
 mod patterns;
 mod pick;
-mod steps;
-mod narrowing;
-mod pick;
 mod root;
+mod steps;
 
 pub use narrowing::narrow;
 pub use numbers::canonical32;
@@ -19,8 +18,8 @@ pub use pick::clamp64;
 pub use pick::largest;
 pub use pick::least;
 pub use pick::sign;
+pub use root::root32;
+pub use root::root64;
 pub use steps::ceiling;
 pub use steps::floor;
 pub use steps::to_whole;
-pub use root::root32;
-pub use root::root64;
