@@ -1,10 +1,12 @@
 // Document 01, "Arithmetic": the functions. Each is total, and its contract is an equation with a definition of the crate `numbers`.
+mod exponential;
 mod narrowing;
 mod patterns;
 mod pick;
 mod root;
 mod steps;
 
+pub use exponential::exp_neg;
 pub use narrowing::narrow;
 pub use numbers::canonical32;
 pub use numbers::canonical64;

@@ -16,16 +16,16 @@ pub fn clamp64(x: f64, lo: f64, hi: f64) -> f64
 }
 
 // The same at f32.
-pub fn clamp32(x: f32, lo: f32, hi: f32) -> f32
-    ensures { λ r. ⌜ r ≡ clamped x lo hi ⌝ }
+pub fn clamp32(v: f32, lo: f32, hi: f32) -> f32
+    ensures { λ r. ⌜ r ≡ clamped v lo hi ⌝ }
 {
-    if x < lo {
+    if v < lo {
         return lo;
     }
-    if hi < x {
+    if hi < v {
         return hi;
     }
-    x
+    v
 }
 
 // 1 with the sign of x: +0 gives 1, -0 gives -1, NaN gives NaN. No comparison tells +0 from -0, so the sign is read off the pattern.

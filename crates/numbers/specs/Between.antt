@@ -1,6 +1,6 @@
 -- What is clamped lies between the ends, and what lies between them stays. Assumes nothing.
 use mathlib.Core.Path.{_≡_, refl, sym, ap, _∙_}
-use mathlib.Core.Bool.{Bool, true, false, not, cond, false≢true}
+use mathlib.Core.Bool.{Bool, true, false, not, cond}
 use borrow.Author.Tests.{not-true}
 use lib.Ieee.{Float, lt, le, isNan}
 use Rattle.numbers.specs.Arithmetic.{clamped}

@@ -1,15 +1,15 @@
 -- `floored x` is the greatest whole number that is not above x, and `ceiled x` the least that is not below, for every finite f64; a NaN, an infinity and a zero stay.
 -- A value with a fraction is below 2 ^ 52 in size, so its whole part, and one more, are floats exactly; then all is about whole numbers and one fraction.
 -- The ceiling is the floor of -x, negated. Assumes nothing.
-use mathlib.Core.Path.{_≡_, refl, sym, ap, _∙_, subst}
-use mathlib.Core.Bool.{Bool, true, false, not, _&&_, _||_, cond, true≢false, false≢true}
-use Prim.Native.Nat.{ℕ, zero, suc, _+_, _*_, _/_, _%_, _^_, _≤_, _<_}
+use mathlib.Core.Path.{_≡_, refl, sym, ap, _∙_}
+use mathlib.Core.Bool.{Bool, true, false, not, _&&_, _||_, cond, false≢true}
+use Prim.Native.Nat.{ℕ, _+_, _*_, _/_, _%_, _^_, _≤_, _<_}
 use native.Mathlib.Nat.{mul-one, mul-mod-left, div-add-mod', le-div-iff-mul-le, lt-of-not-le, mul-le-mul-right, zero-mod, add-zero}
 use native.Mathlib.Omega.{arith}
 use borrow.Author.Tests.{ltb-true, eqb-true, eqb-false, lt-ltb}
 use lib.Dec.{T, ltb, eqb}
 use lib.IntN.{ℤ, pos}
-use lib.Ieee.{Float, nan, inf, fin, binary64, up, down, round, neg, below, level, lt, eq, le, fits, isNan}
+use lib.Ieee.{Float, nan, inf, fin, binary64, up, down, round, neg, below, level, lt, le, fits, isNan}
 use lib.Ieee.Fits.{down-pos, cond-fits, round-fits, neg-fits}
 use lib.Ieee.Exact.{HasValue}
 use lib.Ieee.Scale.{finite}

@@ -11,6 +11,8 @@ pub mod Steps
 pub mod Whole
 pub mod Between
 pub mod Floors
+pub mod Commuting
+pub mod OppositeKept
 pub mod Binary
 pub mod Squares
 pub mod RootWhole
@@ -26,3 +28,6 @@ pub mod NarrowKeeps
 pub mod ClosestAdd
 pub mod NarrowPattern
 pub mod NarrowPoints
+pub mod RoundNearest
+pub mod RoundOverflow
+pub mod NarrowNearest

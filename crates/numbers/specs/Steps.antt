@@ -1,7 +1,7 @@
 -- How floor and ceiling are computed, for an f64 above 0: from 2 ^ 52 on every value is whole, and below that the whole part q, and q + 1, are floats exactly,
 -- so the value is whole just where q as a float equals it. Of fin s m e the magnitude is m * up e / down e, and it is whole where the remainder is 0. Assumes nothing.
 use mathlib.Core.Path.{_≡_, refl, sym, ap, _∙_, subst}
-use mathlib.Core.Bool.{Bool, true, false, not, _&&_, _||_, Bool·beq, cond, true≢false, false≢true}
+use mathlib.Core.Bool.{Bool, true, false, _&&_, _||_, Bool·beq, cond, true≢false, false≢true}
 use Prim.Native.Nat.{ℕ, zero, suc, _+_, _-_, _*_, _/_, _%_, _^_, _≤_, _<_, min}
 use native.Mathlib.Nat.{mul-one, mul-right-comm, eq-of-mul-eq-mul-right, add-zero, div-add-mod', mod-eq-of-lt, div-lt-iff-lt-mul}
 use native.Mathlib.Omega.{arith}

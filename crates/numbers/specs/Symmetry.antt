@@ -1,15 +1,15 @@
 -- The sign goes through: each operation of negated operands gives the negated result, or the same truth value of the operands in the other order.
 -- Rounding has no direction, so the sign of a fraction stays aside; only a sum that is exactly zero is +0 both times. Assumes nothing.
 use mathlib.Core.Path.{_≡_, refl, sym, ap, _∙_}
-use mathlib.Core.Bool.{Bool, true, false, not, _&&_, _||_, Bool·beq, cond, true≢false}
+use mathlib.Core.Bool.{Bool, true, false, not, _&&_, _||_, cond, true≢false}
 use mathlib.Core.Logic.{inl, inr}
 use Prim.Native.Nat.{ℕ, zero, suc, _+_, _-_, _*_, _/_, _%_, _^_, _<_}
 use native.Mathlib.Nat.{add-comm, mul-pos, zero-mul}
 use native.Mathlib.Omega.{arith}
-use borrow.Author.Tests.{ltb-true, ltb-false}
+use borrow.Author.Tests.{ltb-false}
 use lib.Dec.{ltb, eqb}
 use lib.IntN.{ℤ, pos}
-use lib.Ieee.{Float, nan, inf, fin, Format, binary32, binary64, prec, emax, low, unlike, up, down, odd, units, round, neg, sum, add, sub, mul, div, below, level, lt, eq, le, isNan}
+use lib.Ieee.{Float, nan, inf, fin, Format, binary32, binary64, prec, emax, low, unlike, up, down, odd, units, round, neg, sum, add, sub, mul, div, lt, eq, le, isNan}
 use lib.Ieee.Fits.{round-is, down-pos}
 use lib.Ieee.Scale.{round-same}
 use Rattle.numbers.specs.Arithmetic.{narrowed, stepped, floored, ceiled, clamped, signed, least, largest}

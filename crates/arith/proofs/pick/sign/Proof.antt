@@ -1,8 +1,8 @@
 -- `arith::sign` meets its contract: only a NaN differs from itself, and the highest bit of a pattern is the sign. Assumes nothing.
-use mathlib.Core.Path.{_≡_, sym, _∙_, subst}
-use mathlib.Core.Bool.{not, true, false}
+use mathlib.Core.Path.{sym, _∙_, subst}
+use mathlib.Core.Bool.{not}
 use lib.Dec.{T}
-use lib.Ieee.{binary64, fits, isNan}
+use lib.Ieee.{binary64, fits}
 use Rattle.numbers.specs.Comparing.{ne-itself}
 use Rattle.numbers.specs.Signs.{sign-clear, sign-set, sign-nan}
 use Rattle.arith.proofs.pick.sign.Statement.{statement}

@@ -1,5 +1,5 @@
 -- `arith::ceiling` meets its contract: below 0 it is the floor of -x, negated; a zero and a NaN stay. Assumes nothing.
-use mathlib.Core.Path.{sym, ap, _∙_}
+use mathlib.Core.Path.{ap, _∙_}
 use borrow.Author.Needs.{needs}
 use lib.Ieee.{neg}
 use Rattle.numbers.specs.Steps.{above-nought, below-nought, at-rest}

@@ -1,7 +1,5 @@
 -- `arith::to_whole` meets its contract: between -1 and 2 ^ 64 it is std's cast, and past either end the end itself. Assumes nothing.
-use mathlib.Core.Path.{sym, subst}
 use borrow.Author.Needs.{needs}
-use lib.Dec.{T}
 use lib.Ieee.{ofBits, neg}
 use Rattle.numbers.specs.Comparing.{holds}
 use Rattle.numbers.specs.Casts.{cast-top, cast-none}
