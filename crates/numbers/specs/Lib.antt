@@ -31,13 +31,3 @@ pub mod NarrowPoints
 pub mod RoundNearest
 pub mod RoundOverflow
 pub mod NarrowNearest
-pub mod Opposite
-pub mod Comparing
-pub mod Symmetry
-pub mod Signs
-pub mod Casts
-pub mod Series
-pub mod Steps
-pub mod Whole
-pub mod Between
-pub mod Floors
