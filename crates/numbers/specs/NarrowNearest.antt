@@ -1,5 +1,7 @@
--- Narrowing is IEEE 754's conversion of a binary64 value to binary32 under roundTiesToEven, for every finite x = ±m * 2 ^ e. Below 2 ^ 128 - 2 ^ 103 in size the result is finite (`narrowed-finite`), and then no f32 value
--- is nearer to x, and of two equally near ones the even one is taken (`narrowed-nearest`), which determines it (`narrowed-only`). From there on it is the infinity of x's sign (`narrowed-infinite`). Assumes nothing.
+-- Narrowing is IEEE 754's conversion to binary32 under roundTiesToEven, for every finite x = ±m * 2 ^ e, and so for every finite f64.
+-- Below 2 ^ 128 - 2 ^ 103 in size the result is finite (`narrowed-finite`). Then no f32 value is nearer to x, and of two that are equally near the one
+-- with the even significand is taken (`narrowed-nearest`), which determines the result (`narrowed-only`). From there on it is the infinity of x's
+-- sign (`narrowed-infinite`). Assumes nothing.
 use mathlib.Core.Path.{_≡_}
 use mathlib.Core.Bool.{Bool}
 use Prim.Native.Nat.{ℕ, _-_, _*_, _^_, _≤_, _<_}
@@ -16,7 +18,8 @@ pub narrowed-nearest : (s : Bool) (m : ℕ) (e : ℤ) → T (finite (narrowed (f
 unfolding narrowed
 narrowed-nearest s m e F = round-nearest binary32 s (m * up e) (down e) (down-pos e) F
 
-pub narrowed-only : (s : Bool) (m : ℕ) (e : ℤ) → T (finite (narrowed (fin s m e))) → (v : Float) → TiesToEven binary32 s (m * up e) (down e) v → v ≡ narrowed (fin s m e)
+pub narrowed-only : (s : Bool) (m : ℕ) (e : ℤ) → T (finite (narrowed (fin s m e)))
+    → (v : Float) → TiesToEven binary32 s (m * up e) (down e) v → v ≡ narrowed (fin s m e)
 unfolding narrowed
 narrowed-only s m e F v h = round-only binary32 s (m * up e) (down e) (down-pos e) F v h
 

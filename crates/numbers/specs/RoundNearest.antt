@@ -1,19 +1,20 @@
--- IEEE 754's roundTiesToEven, of `round` in either format. Where the result is finite, it is the value of the format that is nearest to the exact result, and of two that are equally near the one whose last digit
--- is even (`round-nearest`); and no other value is so (`round-only`). In units of the format's smallest value the exact result is n / den, and u is den * 2 ^ k for the k digits that are dropped: the
--- neighbours around it are q and q + 1 times 2 ^ k units, for n = q * u + rest, and the rest decides. `RoundOverflow` says where the result is finite. Assumes nothing.
+-- IEEE 754's roundTiesToEven, of `round` in either format. Where the result is finite, it is the value of the format that is nearest to the infinitely
+-- precise result, and of two that are equally near the one with the even last digit (`round-nearest`); and no other value is so (`round-only`).
+-- In units of the format's smallest value the exact result is n / den, and u is den * 2 ^ k for the k digits that are dropped: the neighbours around it
+-- are q and q + 1 times 2 ^ k units, for n = q * u + rest, and the rest decides. `RoundOverflow` says where the result is finite. Assumes nothing.
 use mathlib.Core.Path.{_≡_, refl, sym, ap, _∙_, subst}
 use mathlib.Core.Logic.{_⊎_, inl, inr}
-use mathlib.Core.Bool.{Bool, true, false, not, Bool·beq, cond, true≢false}
-use Prim.Native.Nat.{ℕ, zero, suc, _+_, _-_, _*_, _/_, _%_, _^_, _≤_, _<_, compare, Ordering, Ordering·lt, Ordering·eq, Ordering·gt}
-use native.Mathlib.Nat.{le-refl, le-trans, le-of-eq, le-antisymm, eq-zero-or-pos, zero-mul, one-mul, suc-mul, mul-comm, mul-assoc, mul-pos, add-mul, mul-le-mul-right, eq-of-mul-eq-mul-right, div-div-eq-div-mul, le-div-iff-mul-le, div-add-mod', mod-lt}
+use mathlib.Core.Bool.{Bool, true, false, not, Bool·beq, cond}
+use Prim.Native.Nat.{ℕ, suc, _+_, _-_, _*_, _/_, _%_, _^_, _≤_, _<_, compare, Ordering, Ordering·lt, Ordering·eq, Ordering·gt}
+use native.Mathlib.Nat.{le-trans, le-of-eq, le-antisymm, eq-zero-or-pos, zero-mul, one-mul, suc-mul, mul-comm, mul-assoc, mul-pos, add-mul, mul-le-mul-right, eq-of-mul-eq-mul-right, div-div-eq-div-mul, le-div-iff-mul-le, div-add-mod', mod-lt}
 use native.Mathlib.Omega.{arith}
 use lib.Dec.{T, ltb, eqb, ltb→lt, nltb→le, eqb→eq, eqb-refl}
 use lib.Pow.{pow-add, pow-pos}
-use lib.Ieee.{Float, Format, prec, emax, low, size, nearest, odd, inf, units, round, fits, hid, ones, top, toBits}
+use lib.Ieee.{Float, Format, prec, low, size, nearest, odd, inf, units, round, fits, hid, ones, top, toBits}
 use lib.Ieee.Digits.{size-reaches}
 use lib.Ieee.Fits.{two, two-le-pos, kept-lt, nearest-le, round-is, round-fits}
 use lib.Ieee.Exact.{HasValue, units-val}
-use lib.Ieee.Nearest.{closest, nearest-ge}
+use lib.Ieee.Nearest.{nearest-ge}
 use lib.Ieee.Order.{drop, kept}
 use lib.Ieee.Scale.{finite, overflow}
 use Rattle.numbers.specs.Binary.{double, Cmp, cmp}
@@ -33,14 +34,15 @@ away s a t b = cond (Bool·beq s t) (apart a b) (a + b)
 abbrev pub distance : Format → Bool → ℕ → ℕ → Bool → ℕ → ℕ
 distance f s num den t Y = away s (num * 2 ^ low f) t (Y * den)
 
--- r, of ±R units, is what roundTiesToEven delivers for the exact result ±num / den: no value y of the format, of ±Y units, is nearer; and where another is equally near, the last digit of r's significand,
--- which is the lowest bit of its pattern, is 0
+-- r, of ±R units, is what roundTiesToEven delivers for the exact result ±num / den: no value y of the format, of ±Y units, is nearer (`best`); and where
+-- another one is equally near, the last digit of r's significand, which is the lowest bit of its pattern, is 0 (`tie`)
 pub record TiesToEven (f : Format) (s : Bool) (num den : ℕ) (r : Float) : Type 0 where
   pub R : ℕ
   pub value : HasValue r s R (2 ^ low f)
   pub fit : T (fits f r)
   pub best : (y : Float) (t : Bool) (Y : ℕ) → T (fits f y) → HasValue y t Y (2 ^ low f) → distance f s num den s R ≤ distance f s num den t Y
-  pub tie : (y : Float) (t : Bool) (Y : ℕ) → T (fits f y) → HasValue y t Y (2 ^ low f) → distance f s num den s R ≡ distance f s num den t Y → (R ≡ Y → ⊥) → toBits f r % 2 ≡ 0
+  pub tie : (y : Float) (t : Bool) (Y : ℕ) → T (fits f y) → HasValue y t Y (2 ^ low f)
+      → distance f s num den s R ≡ distance f s num den t Y → (R ≡ Y → ⊥) → toBits f r % 2 ≡ 0
 
 -- ---- which of the two multiples of u around q * u + rest is taken: q where the rest is at most a half, the next where it is at least a half, and at a half the even one
 
@@ -99,7 +101,8 @@ module _ (f : Format) (num den : ℕ) (D : 0 < den) where
   q-ge : 0 < k → hid f ≤ q
   q-ge K =
       let p = P in
-      let a : hid f * 2 ^ k ≤ n / den = le-trans (le-of-eq (sym (pow-add 2 (prec f - 1) k))) (size-reaches (n / den) (prec f - 1 + k) (let z : prec f - 1 + k < size (n / den) = omega arith in z)) in
+      let reached : 2 ^ (prec f - 1 + k) ≤ n / den = size-reaches (n / den) (prec f - 1 + k) (omega arith) in
+      let a : hid f * 2 ^ k ≤ n / den = le-trans (le-of-eq (sym (pow-add 2 (prec f - 1) k))) reached in
       subst (λ (x : ℕ). hid f ≤ x) (div-div-eq-div-mul n den (2 ^ k)) (le-div-iff-mul-le (pow-pos k) .1 a)
 
   pub kept-le : c ≤ 2 ^ prec f
@@ -167,7 +170,8 @@ module _ (f : Format) (num den : ℕ) (D : 0 < den) where
       at-low : (c ≡ q) × (n % u * 2 ≤ u) × (n % u * 2 ≡ u → q % 2 ≡ 0) → Tie Y
       at-low h =
           let b = at-q (h .0) in
-          let t = down-tie (q * u) u (n % u) n (Y * den) parts rest-lt (beside Y d) (h .1) (ap (λ (x : ℕ). apart n x) (sym b) ∙ e) (λ (w : q * u ≡ Y * den). differ (b ∙ w)) in
+          let level = ap (λ (x : ℕ). apart n x) (sym b) ∙ e in
+          let t = down-tie (q * u) u (n % u) n (Y * den) parts rest-lt (beside Y d) (h .1) level (λ (w : q * u ≡ Y * den). differ (b ∙ w)) in
           let v : q % 2 ≡ 0 = h .2 (t .1) in
           record {
             even = ap (λ (x : ℕ). x % 2) (h .0) ∙ v;
@@ -181,7 +185,8 @@ module _ (f : Format) (num den : ℕ) (D : 0 < den) where
       at-high : (c ≡ suc q) × (u ≤ n % u * 2) × (n % u * 2 ≡ u → suc q % 2 ≡ 0) → Tie Y
       at-high h =
           let b = at-next (h .0) in
-          let t = up-tie (q * u) u (n % u) n (Y * den) parts rest-lt (beside Y d) (h .1) (ap (λ (x : ℕ). apart n x) (sym b) ∙ e) (λ (w : q * u + u ≡ Y * den). differ (b ∙ w)) in
+          let level = ap (λ (x : ℕ). apart n x) (sym b) ∙ e in
+          let t = up-tie (q * u) u (n % u) n (Y * den) parts rest-lt (beside Y d) (h .1) level (λ (w : q * u + u ≡ Y * den). differ (b ∙ w)) in
           let v : suc q % 2 ≡ 0 = h .2 (t .1) in
           record {
             even = ap (λ (x : ℕ). x % 2) (h .0) ∙ v;
@@ -295,6 +300,7 @@ module _ (f : Format) (s : Bool) (num den : ℕ) (D : 0 < den) (F : T (finite (r
       go false h i =
           let k = drop (prec f) (num * 2 ^ low f) den in
           let t = tied f num den D (g .R) (digits-of f v s (g .R) (g .fit) (g .value)) (same-sign s (num * 2 ^ low f) (R * den) (g .R * den) level) i in
-          let odd : toBits f v % 2 ≡ 1 = ap (λ (x : ℕ). x % 2) (bits-of f v s (t .z) k (t .le) (t .ge) (subst (λ (x : ℕ). HasValue v s x (2 ^ low f)) (t .is) (g .value))) ∙ parity f s k (t .z) ∙ t .odd in
+          let bits : toBits f v ≡ pattern f s k (t .z) = bits-of f v s (t .z) k (t .le) (t .ge) (subst (λ (x : ℕ). HasValue v s x (2 ^ low f)) (t .is) (g .value)) in
+          let odd : toBits f v % 2 ≡ 1 = ap (λ (x : ℕ). x % 2) bits ∙ parity f s k (t .z) ∙ t .odd in
           let even : toBits f v % 2 ≡ 0 = g .tie r s R (round-fits f s num den) size-is (sym level) (λ (e : g .R ≡ R). i (sym e)) in
           absurd (odd-and-even (toBits f v % 2) odd even)

@@ -1,10 +1,11 @@
--- IEEE 754's overflow, of `round` in either format: the result is an infinity exactly where the exact result is 2 ^ emax * (2 - 2 ^ -prec) in size or more (`round-infinite`, `round-finite`). That is the middle of the
--- largest value, Q * 2 ^ last units with Q = 2 ^ prec - 1, and the next one, 2 ^ prec * 2 ^ last; and Q is odd, so a tie goes up. Assumes nothing.
+-- IEEE 754's overflow, of `round` in either format: the result is an infinity exactly where the exact result is 2 ^ emax * (2 - 2 ^ -prec) in size or
+-- more (`round-infinite`, `round-finite`). That is the middle of the largest value, Q * 2 ^ last units with Q = 2 ^ prec - 1, and the next one,
+-- 2 ^ prec * 2 ^ last; and Q is odd, so a tie goes up. Assumes nothing.
 use mathlib.Core.Path.{_≡_, sym, ap, _∙_, subst}
-use mathlib.Core.Logic.{_⊎_, inl, inr}
-use mathlib.Core.Bool.{Bool, true, false, not}
+use mathlib.Core.Logic.{inl, inr}
+use mathlib.Core.Bool.{Bool}
 use Prim.Native.Nat.{ℕ, suc, _+_, _-_, _*_, _/_, _%_, _^_, _≤_, _<_, compare}
-use native.Mathlib.Nat.{le-refl, le-trans, le-of-eq, lt-of-lt-of-le, lt-of-le-of-lt, eq-or-lt-of-le, mul-comm, mul-assoc, mul-right-comm, add-mul, one-mul, mul-le-mul-right, mul-lt-mul-of-pos-right, lt-of-mul-lt-mul-right, le-of-mul-le-mul-right, le-div-iff-mul-le, div-lt-iff-lt-mul, div-add-mod', mod-lt, pow-succ'}
+use native.Mathlib.Nat.{le-trans, le-of-eq, le-of-lt, lt-of-lt-of-le, lt-of-le-of-lt, eq-or-lt-of-le, mul-comm, mul-assoc, mul-right-comm, add-mul, one-mul, mul-le-mul-right, mul-lt-mul-of-pos-right, lt-of-mul-lt-mul-right, le-of-mul-le-mul-right, le-div-iff-mul-le, div-lt-iff-lt-mul, div-add-mod', mod-lt, pow-succ'}
 use native.Mathlib.Omega.{arith}
 use lib.Dec.{T, lit≤}
 use lib.Pow.{pow-add, pow-pos, pow-mono, pow-lt}
@@ -59,9 +60,6 @@ module _ (n u Q : ℕ) (U : 0 < u) where
   closest-over : Q % 2 ≡ 1 → (2 * Q + 1) * u ≤ 2 * n → suc Q ≤ closest n u
   closest-over odd h = elim choice [ inl g ↦ at-low g | inr g ↦ at-high g ]
     where
-      q : ℕ
-      q = n / u
-
       at-low : (closest n u ≡ n / u) × (n % u * 2 ≤ u) × (n % u * 2 ≡ u → n / u % 2 ≡ 0) → suc Q ≤ closest n u
       at-low g =
           let p = parts in
@@ -118,7 +116,8 @@ module _ (f : Format) where
       mul-comm 2 (limit f * 2 ^ low f)
       ∙ ap (λ (x : ℕ). x * 2) (mul-assoc a (2 ^ (emax f - prec f)) (2 ^ low f) ∙ ap (λ (x : ℕ). a * x) (sym (pow-add 2 (emax f - prec f) (low f))))
       ∙ mul-assoc a (2 ^ (emax f - prec f + low f)) 2
-      ∙ ap (λ (x : ℕ). a * x) (sym (pow-add 2 (emax f - prec f + low f) 1) ∙ ap (λ (x : ℕ). 2 ^ x) (let z : emax f - prec f + (emax f + prec f - 2) + 1 ≡ 2 * emax f - 1 = omega arith in z))
+      ∙ ap (λ (x : ℕ). a * x) (sym (pow-add 2 (emax f - prec f + low f) 1))
+      ∙ ap (λ (x : ℕ). a * 2 ^ x) (let z : emax f - prec f + (emax f + prec f - 2) + 1 ≡ 2 * emax f - 1 = omega arith in z)
       ∙ ap (λ (x : ℕ). x * 2 ^ last) middle-is
 
   overflow-is : overflow f ≡ 2 ^ prec f * 2 ^ last
@@ -132,12 +131,15 @@ module _ (f : Format) where
   limit-under =
       let a = limit-units in
       let b = overflow-is in
-      let c : (2 * largest + 1) * 2 ^ last < 2 * 2 ^ prec f * 2 ^ last = mul-lt-mul-of-pos-right (let h = pow-pos (prec f) in let z : 2 * largest + 1 < 2 * 2 ^ prec f = omega arith in z) (pow-pos last) in
+      let h = pow-pos (prec f) in
+      let c : (2 * largest + 1) * 2 ^ last < 2 * 2 ^ prec f * 2 ^ last = mul-lt-mul-of-pos-right (omega arith) (pow-pos last) in
       let d : 2 * 2 ^ prec f * 2 ^ last ≡ 2 * (2 ^ prec f * 2 ^ last) = mul-assoc 2 (2 ^ prec f) (2 ^ last) in
       omega arith
 
   limit-over : overflow f ≤ 2 * (limit f * 2 ^ low f)
-  limit-over = le-trans (le-of-eq overflow-is) (le-trans (mul-le-mul-right (2 ^ last) (let h = pow-pos (prec f) in let z : 2 ^ prec f ≤ 2 * largest + 1 = omega arith in z)) (le-of-eq (sym limit-units)))
+  limit-over =
+      let h = pow-pos (prec f) in
+      le-trans (le-of-eq overflow-is) (le-trans (mul-le-mul-right (2 ^ last) (let z : 2 ^ prec f ≤ 2 * largest + 1 = omega arith in z)) (le-of-eq (sym limit-units)))
 
 -- ---- what `round` keeps, against the limit
 module _ (f : Format) (s : Bool) (num den : ℕ) (D : 0 < den) where
@@ -209,7 +211,8 @@ module _ (f : Format) (s : Bool) (num den : ℕ) (D : 0 < den) where
 
     few : k ≤ last f
     few =
-        let g : n < overflow f * den = lt-of-lt-of-le below (le-trans (le-of-eq (sym (in-units den))) (mul-le-mul-right den (let l = limit-under f in let z : limit f * 2 ^ low f ≤ overflow f = omega arith in z))) in
+        let l : limit f * 2 ^ low f ≤ overflow f = le-of-lt (limit-under f) in
+        let g : n < overflow f * den = lt-of-lt-of-le below (le-trans (le-of-eq (sym (in-units den))) (mul-le-mul-right den l)) in
         let z : size (n / den) ≤ low f + suc (emax f) = size-le (n / den) (low f + suc (emax f)) (div-lt-iff-lt-mul D .1 g) in
         let t = total in
         omega arith
