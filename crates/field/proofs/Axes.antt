@@ -6,7 +6,7 @@ use Prim.Native.Nat.{ℕ, zero, suc, _+_, _*_, _/_, _%_, _<_, _≤_}
 use native.Mathlib.Nat.{suc-mul, mul-le-mul-right, mul-assoc, add-mul, div-add-mod'}
 use native.Mathlib.Omega.{arith}
 use lib.Arith.{digits-div, digits-mod}
-use lib.Ieee.{Float, nan, binary32, add, mul}
+use lib.Ieee.{Float, nan}
 use Rattle.lists.specs.Lists.{tabulate, at, part}
 use Rattle.lists.specs.Tabulate.{tabulate-ext}
 use Rattle.lists.specs.Part.{part-at}

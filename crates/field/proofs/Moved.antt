@@ -1,6 +1,6 @@
 -- Where an offset leads, said by numbers: to the place place + t - radius, which lies on the side, or outside, before the side or past it. By cases on the two tests.
 -- Assumes nothing.
-use mathlib.Core.Path.{_≡_, refl, sym, ap, _∙_, subst}
+use mathlib.Core.Path.{_≡_, refl, ap, subst}
 use mathlib.Core.Bool.{Bool, true, false, _&&_, cond}
 use mathlib.Core.Logic.{_⊎_, inl, inr}
 use Prim.Native.Nat.{ℕ, _+_, _-_, _*_, _<_, _≤_}

@@ -1,6 +1,6 @@
 -- The right side at the nodes of row r = i * n + j, as the row's function computes it: +0.0 at all of them or at the two ends, and between them the formula.
 -- The boundary row by row is `boundary-row` of the crate grid. Then the same of equal components, and of the kernel as it is made. Assumes nothing.
-use mathlib.Core.Path.{_≡_, refl, sym, ap, _∙_}
+use mathlib.Core.Path.{_≡_, sym, ap, _∙_}
 use mathlib.Core.Bool.{Bool, true, false, _||_, cond}
 use mathlib.Core.List.{List}
 use Prim.Native.Nat.{ℕ, _+_, _*_, _<_}
@@ -9,7 +9,7 @@ use lib.ListN.{take}
 use lib.Ieee.{Float}
 use Rattle.lists.specs.Lists.{tabulate, part, zero32, zeros32}
 use Rattle.lists.specs.Tabulate.{tabulate-same}
-use Rattle.grid.specs.Grid.{atEnd, boundaryRow, boundaryNode}
+use Rattle.grid.specs.Grid.{atEnd, boundaryRow}
 use Rattle.grid.specs.Rows.{boundary-row, no-end}
 use Rattle.grid.specs.declared.Grid.{Grid}
 use Rattle.points.specs.declared.point.Point.{Point}

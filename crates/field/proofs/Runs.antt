@@ -1,9 +1,9 @@
 -- One offset's terms along a row that is a line itself: the nodes that it leads inside are a run, and so are those that it leads them to. The run's ends are known by the
 -- first node or by the last: from the first node's place on (`run-ahead`), up to the last node's place (`run-back`), or nothing at all (`run-none`).
 -- Lists by their elements; which node is where, by `Moved` and omega. Assumes nothing.
-use mathlib.Core.Path.{_≡_, refl, sym, ap, _∙_, subst}
+use mathlib.Core.Path.{_≡_, sym, ap, _∙_}
 use mathlib.Core.List.{List}
-use mathlib.Core.Logic.{_⊎_, inl, inr, ⊎-elim}
+use mathlib.Core.Logic.{⊎-elim}
 use Prim.Native.Nat.{ℕ, _+_, _-_, _<_, _≤_}
 use native.Mathlib.Omega.{arith}
 use borrow.Rule.Slice.PartMut.{putMid}

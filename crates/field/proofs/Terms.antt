@@ -1,8 +1,8 @@
 -- One offset's terms are added to the sums of a row: the row of sums is then that of one offset more (`blur-more`), whatever the lines of its nodes and their places on them.
 -- A row whose lines run across it takes a part of v, or nothing (`across-at`, `across-outside`). Lists by their elements. Assumes nothing.
-use mathlib.Core.Path.{_≡_, refl, sym, ap, _∙_}
+use mathlib.Core.Path.{_≡_, sym, ap, _∙_}
 use mathlib.Core.List.{List}
-use Prim.Native.Nat.{ℕ, zero, suc, _+_, _*_}
+use Prim.Native.Nat.{ℕ, suc, _+_, _*_}
 use native.Mathlib.Numerals.{add-one}
 use native.Mathlib.Omega.{arith}
 use lib.ListN.{length}

@@ -1,14 +1,14 @@
 -- The radius is at most 18, whatever the smoothing and the spacing: sigma is at most 6.0 or NaN, and 3·6.0 is the whole number 18, which the ceiling does not pass.
 -- P8 and P9 of document 01 are its two ends. Assumes nothing.
-use mathlib.Core.Path.{_≡_, refl, sym, ap, _∙_, subst}
-use mathlib.Core.Bool.{Bool, true, false, not, cond, true≢false, false≢true}
-use Prim.Native.Nat.{ℕ, _*_, _/_, _≤_, _<_}
+use mathlib.Core.Path.{_≡_, refl, subst}
+use mathlib.Core.Bool.{Bool, true, false, true≢false}
+use Prim.Native.Nat.{_*_, _/_, _≤_, _<_}
 use native.Mathlib.Nat.{mul-one, div-lt-iff-lt-mul}
 use native.Mathlib.Omega.{arith}
 use borrow.Author.Tests.{ltb-false}
 use lib.Dec.{T}
 use lib.IntN.{pos, negsuc}
-use lib.Ieee.{Float, nan, inf, fin, binary64, up, down, ofBits, mul, div, lt, le, isNan, fits, toUnsigned}
+use lib.Ieee.{Float, nan, inf, fin, binary64, up, down, ofBits, mul, div, lt, le, isNan, toUnsigned}
 use lib.Ieee.Fits.{down-pos, mul-fits}
 use lib.Ieee.Bits.{is-true}
 use lib.Ieee.Positive.{positive, positive-finite, between, mul-mono}

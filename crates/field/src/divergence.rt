@@ -6,7 +6,7 @@ ghost use lib.ListN.{length};
 ghost use Rattle.lists.specs.Lists.{tabulate};
 ghost use Rattle.numbers.specs.Arithmetic.{narrowed};
 ghost use Rattle.grid.specs.Grid.{Sides};
-ghost use Rattle.field.specs.Field.{slopeAt, divergenceAt, rightSideAt};
+ghost use Rattle.field.specs.Field.{slopeAt, rightSideAt};
 ghost use Rattle.field.specs.Inner.{innerAt, rowAt};
 use grid::Grid;
 use grid::Node;

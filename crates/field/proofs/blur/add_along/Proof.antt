@@ -1,8 +1,6 @@
 -- `field::blur::add_along` meets its contract: the run of nodes inside begins at the first node, or `add_to_end` has it (`Runs`).
 -- Assumes nothing.
-use mathlib.Core.Path.{_≡_, refl, sym, _∙_}
-use Prim.Native.Nat.{_-_}
-use lib.ListN.{length}
+use mathlib.Core.Path.{refl, sym, _∙_}
 use denote.Ref.{now}
 use Rattle.field.proofs.Moved.{inside-moved}
 use Rattle.field.proofs.Runs.{run-ahead}

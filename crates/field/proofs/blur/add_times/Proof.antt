@@ -4,7 +4,6 @@ use mathlib.Core.Path.{refl}
 use Prim.Native.Nat.{_-_}
 use lib.ListN.{length}
 use lib.Ieee.{nan}
-use denote.Ref.{now}
 use Rattle.lists.specs.Fill.{Filled, filled-none, filled-more, filled-now, filled-done}
 use Rattle.field.specs.Inner.{plusTimes}
 use native.Mathlib.Omega.{arith}

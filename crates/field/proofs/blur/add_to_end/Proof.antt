@@ -1,6 +1,6 @@
 -- `field::blur::add_to_end` meets its contract: the run of nodes inside ends at the last node, or there is none (`Runs`).
 -- Assumes nothing.
-use mathlib.Core.Path.{_≡_, refl, sym, _∙_}
+use mathlib.Core.Path.{refl, sym, _∙_}
 use Prim.Native.Nat.{_+_, _-_}
 use lib.ListN.{length}
 use denote.Ref.{now}

@@ -1,7 +1,7 @@
 -- `field::blur::blur_along` meets its contract. The loop's invariant: `out` holds the sums of the first t offsets' terms.
 -- Assumes nothing.
 use mathlib.Core.Path.{_≡_, sym, ap, _∙_}
-use Prim.Native.Nat.{ℕ, _≤_, _-_, _+_}
+use Prim.Native.Nat.{ℕ, _≤_, _-_}
 use lib.ListN.{length, length-replicate}
 use denote.Ref.{now}
 use Rattle.lists.specs.Lists.{tabulate, zeros32}

@@ -1,11 +1,8 @@
 -- `field::blur::blur_axis` meets its contract. The loop's invariant: `out` is what came with its first rows written.
 -- Assumes nothing.
-use mathlib.Core.Path.{_≡_, refl, ap, _∙_, subst}
+use mathlib.Core.Path.{_≡_, refl, ap}
 use Prim.Native.Nat.{ℕ, _≤_, _+_, _-_, _*_}
 use native.Mathlib.Nat.{zero-mul}
-use mathlib.Core.List.{List}
-use lib.ListN.{length}
-use denote.Ref.{now}
 use Rattle.lists.specs.Fill.{Filled, filled-none, filled-done}
 use Rattle.lists.specs.Part.{length-part, filled-part}
 use Rattle.grid.specs.Rows.{row-end, row-next, square-most, cube-most}

@@ -1,11 +1,9 @@
 -- `field::blur::blur_row` meets its contract: the row along each axis (`Axes`).
 -- Assumes nothing.
-use mathlib.Core.Path.{_≡_, ap, _∙_}
-use Prim.Native.Nat.{_+_, _*_, _/_, _%_}
-use lib.ListN.{length}
+use Prim.Native.Nat.{_+_, _*_}
 use denote.Ref.{now}
 use Rattle.lists.specs.Part.{length-part}
-use Rattle.grid.specs.Rows.{row-of, row-some, row-end}
+use Rattle.grid.specs.Rows.{row-of}
 use Rattle.field.proofs.Axes.{within-cube, planes-within, rows-within, axis-0, axis-1, axis-2}
 use borrow.Author.Needs.{needs}
 use native.Mathlib.Omega.{arith}

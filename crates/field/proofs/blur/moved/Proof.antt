@@ -1,6 +1,6 @@
 -- `field::blur::moved` meets its contract: what the machine computes in i32 is the place itself (`Offset`), and its tests are those of `Moved`.
 -- Assumes nothing.
-use mathlib.Core.Path.{_≡_, refl, sym, ap, _∙_}
+use mathlib.Core.Path.{refl, sym, ap, _∙_}
 use Prim.Native.Nat.{_≤_, _<_, _+_, _-_}
 use borrow.Author.Tests.{ltb-true, ltb-false}
 use lib.IntN.{natAbs}

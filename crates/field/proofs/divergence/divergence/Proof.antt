@@ -1,8 +1,6 @@
 -- `field::divergence::divergence` meets its contract. The loop's invariant: `b` is what came with its first rows written.
 -- Assumes nothing.
-use mathlib.Core.Path.{_≡_, refl, sym, ap, _∙_, subst}
-use mathlib.Core.Bool.{false}
-use mathlib.Core.List.{List}
+use mathlib.Core.Path.{_≡_, sym, ap, _∙_, subst}
 use Prim.Native.Nat.{ℕ, _≤_, _+_, _-_, _*_}
 use native.Mathlib.Nat.{zero-mul}
 use lib.ListN.{length}

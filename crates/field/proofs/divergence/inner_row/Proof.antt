@@ -1,11 +1,9 @@
 -- `field::divergence::inner_row` meets its contract. The loop's invariant: the first k elements of `b` are the row's.
 -- Assumes nothing.
-use mathlib.Core.Path.{_≡_, refl, sym, ap, _∙_, subst}
-use mathlib.Core.Bool.{false, true}
-use mathlib.Core.List.{List}
+use mathlib.Core.Path.{_≡_, ap, _∙_, subst}
+use mathlib.Core.Bool.{false}
 use Prim.Native.Nat.{ℕ, _≤_, _-_, _+_}
 use lib.ListN.{length, take, set, length-set}
-use lib.Ieee.{Float}
 use denote.Ref.{now}
 use Rattle.lists.specs.Lists.{tabulate, zero32}
 use Rattle.lists.specs.Prefix.{prefix-none, prefix-more, prefix-done}

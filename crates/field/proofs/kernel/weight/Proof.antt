@@ -1,6 +1,6 @@
 -- `field::kernel::weight` meets its contract: an offset's size is at most 36, and its square at most 1296.
 -- Assumes nothing.
-use mathlib.Core.Path.{_≡_, refl, sym, ap, _∙_, subst}
+use mathlib.Core.Path.{_∙_}
 use Prim.Native.Nat.{_≤_, _*_, _^_}
 use native.Mathlib.Nat.{mul-le-mul}
 use lib.Dec.{le→leb}

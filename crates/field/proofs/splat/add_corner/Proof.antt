@@ -1,6 +1,5 @@
 -- `field::splat::add_corner` meets its contract: the corner is a node, and its element gets the definition's sum.
 -- Assumes nothing.
-use mathlib.Core.Path.{_≡_, refl, sym, ap, _∙_, subst}
 use Prim.Native.Nat.{_<_, _≤_}
 use lib.ListN.{length}
 use denote.Ref.{now}

@@ -1,9 +1,8 @@
 -- `field::splat::add_point` meets its contract. The loop's invariant: the first c corners are added.
 -- Assumes nothing.
-use mathlib.Core.Path.{_≡_, refl, sym, ap, _∙_, subst}
-use Prim.Native.Nat.{ℕ, _≤_, _-_}
+use mathlib.Core.Path.{_≡_, refl, ap, _∙_}
+use Prim.Native.Nat.{_≤_, _-_}
 use lib.ListN.{length}
-use denote.Ref.{now}
 use Rattle.field.specs.Field.{cornersAdded, pointAdded}
 use Rattle.field.proofs.Corners.{length-corner, corners-none, corners-more}
 use borrow.Author.Needs.{needs}

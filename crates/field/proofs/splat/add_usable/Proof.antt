@@ -1,6 +1,6 @@
 -- `field::splat::add_usable` meets its contract: the definition asks the same question.
 -- Assumes nothing.
-use mathlib.Core.Path.{refl, sym, _∙_}
+use mathlib.Core.Path.{sym, _∙_}
 use borrow.Author.Needs.{needs}
 use Rattle.field.proofs.splat.add_usable.Statement.{statement}
 use Rattle.field.proofs.splat.add_usable.Tie as tie

@@ -1,14 +1,12 @@
 -- `field::kernel::Kernel::new` meets its contract. The loop's invariant: the first t weights are those of the first t offsets.
 -- Assumes nothing.
-use mathlib.Core.Path.{_≡_, refl, sym, ap, _∙_, subst}
-use Prim.Native.Nat.{ℕ, _≤_, _-_, _+_}
-use mathlib.Core.List.{List}
+use mathlib.Core.Path.{_≡_, ap, _∙_, subst}
+use Prim.Native.Nat.{ℕ, _≤_, _-_}
 use lib.ListN.{length, take, replicate, length-set, length-replicate}
 use lib.Ieee.{Float}
 use Rattle.lists.specs.Lists.{tabulate, zero32}
 use Rattle.lists.specs.Prefix.{prefix-none, prefix-more}
-use Rattle.field.specs.Field.{radiusOf, weightOf, reachOf, offsetsOf, kernelOf}
-use Rattle.field.specs.Inner.{KernelOf}
+use Rattle.field.specs.Field.{weightOf, reachOf, offsetsOf, kernelOf}
 use borrow.Author.Needs.{needs}
 use native.Mathlib.Omega.{arith}
 use Rattle.field.proofs.kernel.Kernel.new.Statement.{statement}
