@@ -5,7 +5,8 @@ use Prim.Native.Nat.{ℕ, _≤_, _+_, _-_, _*_}
 use native.Mathlib.Nat.{zero-mul}
 use Rattle.lists.specs.Fill.{Filled, filled-none, filled-done}
 use Rattle.lists.specs.Part.{length-part, filled-part}
-use Rattle.grid.specs.Rows.{row-end, row-next, square-most, cube-most}
+use Rattle.grid.specs.Rows.{row-next, square-most}
+use Rattle.field.proofs.Axes.{Within, within-cube}
 use Rattle.field.specs.Field.{blurAt}
 use native.Mathlib.Omega.{arith}
 use Rattle.field.proofs.blur.blur_axis.Statement.{statement}
@@ -17,47 +18,24 @@ Inv-loop v out₀ axis kernel radius n row₀ out row = Filled (blurAt axis n ra
 abbrev μ-loop : tie.MeasureT-loop
 μ-loop v out₀ axis kernel radius n row₀ out row = n * n - row
 
+-- the row lies within the cube
+within : (c : tie.In-loop Inv-loop μ-loop) → Within (c .before .before .before .before .before .args .g .nodes) (c .before .loop .row)
+within c = within-cube (c .before .before .before .before .before .args .g .nodes) (c .before .loop .row) (c .before .before .before .before .before .pre .0 .most) (c .loop-test .taken)
+
 loop-holds : tie.Need-loop-holds Inv-loop μ-loop
 loop-holds c = (rw zero-mul filled-none, omega arith)
 
 mul-loop : tie.Need-mul-loop Inv-loop μ-loop
-mul-loop c =
-    let q = c in
-    let s = q .before .before .before .before in
-    let n = s .args .g .nodes in
-    let most = cube-most (s .pre .0 .most) in
-    let square = square-most (s .pre .0 .most) in
-    omega arith
+mul-loop c = omega (arith, square-most (c .before .before .before .before .pre .0 .most))
 
 mul-a : tie.Need-mul-a Inv-loop μ-loop
-mul-a c =
-    let q = c .before in
-    let s = q .before .before .before .before in
-    let n = s .args .g .nodes in
-    let most = cube-most (s .pre .0 .most) in
-    let square = square-most (s .pre .0 .most) in
-    let end = row-end n (c .loop-test .taken) in
-    omega arith
+mul-a c = omega (arith, within c)
 
 add-e : tie.Need-add-e Inv-loop μ-loop
-add-e c =
-    let q = c .before in
-    let s = q .before .before .before .before in
-    let n = s .args .g .nodes in
-    let most = cube-most (s .pre .0 .most) in
-    let square = square-most (s .pre .0 .most) in
-    let end = row-end n (c .loop-test .taken) in
-    omega arith
+add-e c = omega (arith, within c)
 
 mul-blur-row : tie.Need-mul-blur-row Inv-loop μ-loop
-mul-blur-row c =
-    let q = c .before in
-    let s = q .before .before .before .before in
-    let n = s .args .g .nodes in
-    let most = cube-most (s .pre .0 .most) in
-    let square = square-most (s .pre .0 .most) in
-    let end = row-end n (c .loop-test .taken) in
-    omega (arith, q .loop .inv .0 .same)
+mul-blur-row c = omega (arith, within c, c .before .loop .inv .0 .same)
 
 sub-blur-row : tie.Need-sub-blur-row Inv-loop μ-loop
 sub-blur-row c = omega arith
@@ -66,54 +44,31 @@ part-blur-row-start : tie.Need-part-blur-row-start Inv-loop μ-loop
 part-blur-row-start c = omega arith
 
 part-blur-row-end : tie.Need-part-blur-row-end Inv-loop μ-loop
-part-blur-row-end c =
-    let q = c .before in
-    let s = q .before .before .before .before in
-    let n = s .args .g .nodes in
-    let most = cube-most (s .pre .0 .most) in
-    let square = square-most (s .pre .0 .most) in
-    let end = row-end n (c .loop-test .taken) in
-    omega (arith, q .loop .inv .0 .same)
+part-blur-row-end c = omega (arith, within c, c .before .loop .inv .0 .same)
 
 blur-row-requires : tie.Need-blur-row-requires Inv-loop μ-loop
 blur-row-requires c κs =
     let q = c .before .before in
     let s = q .before .before .before .before in
     let n = s .args .g .nodes in
-    let most = cube-most (s .pre .0 .most) in
-    let square = square-most (s .pre .0 .most) in
     let r = q .loop .row in
-    let end = row-end n (c .before .loop-test .taken) in
+    let w = within (c .before) in
     let len = length-part (r * n) (r * n + n) (q .loop .out) (omega (arith, q .loop .inv .0 .same)) in
     (s .pre .0 .most, c .before .loop-test .taken, omega arith, s .pre .1, s .pre .3, s .pre .4)
 
 add-row : tie.Need-add-row Inv-loop μ-loop
-add-row c =
-    let q = c .before .before .before .before .before in
-    let s = q .before .before .before .before in
-    let n = s .args .g .nodes in
-    let most = cube-most (s .pre .0 .most) in
-    let square = square-most (s .pre .0 .most) in
-    omega arith
+add-row c = omega (arith, within (c .before .before .before .before))
 
 loop-less : tie.Need-loop-less Inv-loop μ-loop
-loop-less c =
-    let q = c .before .before .before .before .before in
-    let s = q .before .before .before .before in
-    let n = s .args .g .nodes in
-    let most = cube-most (s .pre .0 .most) in
-    let square = square-most (s .pre .0 .most) in
-    omega arith
+loop-less c = omega (arith, within (c .before .before .before .before))
 
 loop-again : tie.Need-loop-again Inv-loop μ-loop
 loop-again c =
     let q = c .before .before .before .before .before in
     let s = q .before .before .before .before in
     let n = s .args .g .nodes in
-    let most = cube-most (s .pre .0 .most) in
-    let square = square-most (s .pre .0 .most) in
     let r = q .loop .row in
-    let end = row-end n (c .before .before .before .before .loop-test .taken) in
+    let w = within (c .before .before .before .before) in
     (rw row-next (filled-part (r * n + n) (q .loop .inv .0) (c .before .before .blur-row .ensures) refl (omega arith) (λ k h. refl)), omega arith)
 
 same-length : tie.Need-same-length Inv-loop μ-loop
@@ -124,8 +79,6 @@ returns c =
     let q = c .before in
     let s = q .before .before .before .before in
     let n = s .args .g .nodes in
-    let most = cube-most (s .pre .0 .most) in
-    let square = square-most (s .pre .0 .most) in
     let all : q .loop .row ≡ n * n = omega arith in
     filled-done (q .loop .inv .0) (s .pre .2) (omega (arith, ap (λ (m : ℕ). m * n) all))
 

@@ -9,7 +9,8 @@ use denote.Ref.{now}
 use Rattle.lists.specs.Lists.{tabulate, part}
 use Rattle.lists.specs.Fill.{Filled, filled-none, filled-done}
 use Rattle.lists.specs.Part.{length-part, filled-part}
-use Rattle.grid.specs.Rows.{row-end, row-next, square-most, cube-most, inner-row}
+use Rattle.grid.specs.Rows.{row-next, square-most, inner-row}
+use Rattle.field.proofs.Axes.{Within, within-cube}
 use Rattle.field.specs.Field.{rightSideAt}
 use Rattle.field.specs.Inner.{rowAt}
 use Rattle.field.proofs.RightSide.{row-at}
@@ -24,6 +25,10 @@ Inv-loop g x y z b₀ n h row₀ b row = Filled (rightSideAt n h x y z) b₀ b (
 abbrev μ-loop : tie.MeasureT-loop
 μ-loop g x y z b₀ n h row₀ b row = n * n - row
 
+-- the row lies within the cube
+within : (c : tie.In-loop Inv-loop μ-loop) → Within (c .before .before .before .before .before .before .before .args .g .nodes) (c .before .loop .row)
+within c = within-cube (c .before .before .before .before .before .before .before .args .g .nodes) (c .before .loop .row) (c .before .before .before .before .before .before .before .pre .0 .most) (c .loop-test .taken)
+
 narrow-requires : tie.Need-narrow-requires Inv-loop μ-loop
 narrow-requires c κs = search needs
 
@@ -31,43 +36,16 @@ loop-holds : tie.Need-loop-holds Inv-loop μ-loop
 loop-holds c = (rw zero-mul filled-none, omega arith)
 
 mul-loop : tie.Need-mul-loop Inv-loop μ-loop
-mul-loop c =
-    let q = c in
-    let s = q .before .before .before .before .before .before in
-    let n = s .args .g .nodes in
-    let most = cube-most (s .pre .0 .most) in
-    let square = square-most (s .pre .0 .most) in
-    omega arith
+mul-loop c = omega (arith, square-most (c .before .before .before .before .before .before .pre .0 .most))
 
 mul-a : tie.Need-mul-a Inv-loop μ-loop
-mul-a c =
-    let q = c .before in
-    let s = q .before .before .before .before .before .before in
-    let n = s .args .g .nodes in
-    let most = cube-most (s .pre .0 .most) in
-    let square = square-most (s .pre .0 .most) in
-    let end = row-end n (c .loop-test .taken) in
-    omega arith
+mul-a c = omega (arith, within c)
 
 add-e : tie.Need-add-e Inv-loop μ-loop
-add-e c =
-    let q = c .before in
-    let s = q .before .before .before .before .before .before in
-    let n = s .args .g .nodes in
-    let most = cube-most (s .pre .0 .most) in
-    let square = square-most (s .pre .0 .most) in
-    let end = row-end n (c .loop-test .taken) in
-    omega arith
+add-e c = omega (arith, within c)
 
 mul-any-row : tie.Need-mul-any-row Inv-loop μ-loop
-mul-any-row c =
-    let q = c .before in
-    let s = q .before .before .before .before .before .before in
-    let n = s .args .g .nodes in
-    let most = cube-most (s .pre .0 .most) in
-    let square = square-most (s .pre .0 .most) in
-    let end = row-end n (c .loop-test .taken) in
-    omega (arith, q .loop .inv .0 .same)
+mul-any-row c = omega (arith, within c, c .before .loop .inv .0 .same)
 
 sub-any-row : tie.Need-sub-any-row Inv-loop μ-loop
 sub-any-row c = omega arith
@@ -76,14 +54,7 @@ part-any-row-start : tie.Need-part-any-row-start Inv-loop μ-loop
 part-any-row-start c = omega arith
 
 part-any-row-end : tie.Need-part-any-row-end Inv-loop μ-loop
-part-any-row-end c =
-    let q = c .before in
-    let s = q .before .before .before .before .before .before in
-    let n = s .args .g .nodes in
-    let most = cube-most (s .pre .0 .most) in
-    let square = square-most (s .pre .0 .most) in
-    let end = row-end n (c .loop-test .taken) in
-    omega (arith, q .loop .inv .0 .same)
+part-any-row-end c = omega (arith, within c, c .before .loop .inv .0 .same)
 
 of-requires : tie.Need-of-requires Inv-loop μ-loop
 of-requires c κs = search needs
@@ -96,10 +67,8 @@ any-row-requires c κs =
     let q = c .before .before .before .before in
     let s = q .before .before .before .before .before .before in
     let n = s .args .g .nodes in
-    let most = cube-most (s .pre .0 .most) in
-    let square = square-most (s .pre .0 .most) in
     let r = q .loop .row in
-    let end = row-end n (c .before .before .before .loop-test .taken) in
+    let w = within (c .before .before .before) in
     let len : length (part (r * n) (r * n + n) (q .loop .b)) ≡ n = length-part (r * n) (r * n + n) (q .loop .b) (omega (arith, q .loop .inv .0 .same)) ∙ omega arith in (
       (λ e.
           let g = inner-row n (c .before .before .before .loop-test .taken) (sym (c .boundary-row .ensures) ∙ e) in
@@ -110,32 +79,18 @@ any-row-requires c κs =
     )
 
 add-row : tie.Need-add-row Inv-loop μ-loop
-add-row c =
-    let q = c .before .before .before .before .before .before .before in
-    let s = q .before .before .before .before .before .before in
-    let n = s .args .g .nodes in
-    let most = cube-most (s .pre .0 .most) in
-    let square = square-most (s .pre .0 .most) in
-    omega arith
+add-row c = omega (arith, within (c .before .before .before .before .before .before))
 
 loop-less : tie.Need-loop-less Inv-loop μ-loop
-loop-less c =
-    let q = c .before .before .before .before .before .before .before in
-    let s = q .before .before .before .before .before .before in
-    let n = s .args .g .nodes in
-    let most = cube-most (s .pre .0 .most) in
-    let square = square-most (s .pre .0 .most) in
-    omega arith
+loop-less c = omega (arith, within (c .before .before .before .before .before .before))
 
 loop-again : tie.Need-loop-again Inv-loop μ-loop
 loop-again c =
     let q = c .before .before .before .before .before .before .before in
     let s = q .before .before .before .before .before .before in
     let n = s .args .g .nodes in
-    let most = cube-most (s .pre .0 .most) in
-    let square = square-most (s .pre .0 .most) in
     let r = q .loop .row in
-    let end = row-end n (c .before .before .before .before .before .before .loop-test .taken) in
+    let w = within (c .before .before .before .before .before .before) in
     let len : length (part (r * n) (r * n + n) (q .loop .b)) ≡ n = length-part (r * n) (r * n + n) (q .loop .b) (omega (arith, q .loop .inv .0 .same)) ∙ omega arith in
     let h = q .before .narrow .result in
     let x = now (s .args .x) in
@@ -157,8 +112,6 @@ returns c =
     let q = c .before in
     let s = q .before .before .before .before .before .before in
     let n = s .args .g .nodes in
-    let most = cube-most (s .pre .0 .most) in
-    let square = square-most (s .pre .0 .most) in
     let all : q .loop .row ≡ n * n = omega arith in
     filled-done (q .loop .inv .0) (s .pre .4) (omega (arith, ap (λ (m : ℕ). m * n) all))
     ∙ ap (λ (h : Float). tabulate (n * n * n) (rightSideAt n h (now (s .args .x)) (now (s .args .y)) (now (s .args .z)))) (q .before .narrow .ensures)
