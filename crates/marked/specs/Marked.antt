@@ -4,8 +4,9 @@ use mathlib.Core.Path.{_≡_, refl}
 use mathlib.Core.Bool.{false}
 use Prim.Native.Nat.{_+_, _^_}
 use lib.IntN.{pos, negsuc}
-use lib.Ieee.{inf, fin, binary32, binary64, ofBits, round}
-use Rattle.numbers.specs.Arithmetic.{rooted, narrowed}
+use lib.Ieee.{inf, fin, binary32, binary64, ofBits, toUnsigned, mul, round}
+use Rattle.numbers.specs.Arithmetic.{rooted, narrowed, ceiled}
+use Rattle.field.specs.Field.{radiusOf}
 
 pub marked :
     (rooted binary32 (fin false 1 (pos 2)) ≡ fin false 1 (pos 1))  -- P1: the root of 4.0 is 2.0,
@@ -16,5 +17,7 @@ pub marked :
     × (narrowed (fin false 1 (pos 128)) ≡ inf false)  -- P5: 2^128 gives infinity
     × (narrowed (fin false 1 (negsuc 149)) ≡ fin false 0 (pos 0))  -- P6: 2^-150 gives 0
     × (narrowed (fin false 3 (negsuc 149)) ≡ fin false 1 (negsuc 147))  -- P7: 3·2^-150 gives 2^-148
-unfolding rooted narrowed round ofBits
-marked = (refl, refl, refl, refl, refl, refl, refl, refl)
+    × (radiusOf (fin false 1 (negsuc 0)) ≡ 2)  -- P8: sigma 0.5 has radius 2
+    × (radiusOf (fin false 3 (pos 1)) ≡ 18)  -- P9: sigma 6.0 has radius 18
+unfolding rooted narrowed round ofBits radiusOf toUnsigned ceiled mul
+marked = (refl, refl, refl, refl, refl, refl, refl, refl, refl, refl)
