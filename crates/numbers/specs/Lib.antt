@@ -32,3 +32,5 @@ pub mod NarrowPoints
 pub mod RoundNearest
 pub mod RoundOverflow
 pub mod NarrowNearest
+pub mod SumOfSquares
+pub mod RootSquares
