@@ -20,7 +20,7 @@ abbrev pub strideOf : ℕ → ℕ
 strideOf count = max (count / 1000) 1
 
 -- the elements 0, s, 2s.. of a list whose first is number i
-abbrev pub everyFrom : ℕ → ℕ → List Point → List Point
+abbrev pub everyFrom : {A : Type 0} → ℕ → ℕ → List A → List A
 everyFrom s i [] = []
 everyFrom s i (p ∷ l) = let t = everyFrom s (suc i) l in cond (eqb (i % s) 0) (p ∷ t) t
 

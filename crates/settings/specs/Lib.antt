@@ -1,0 +1,5 @@
+-- Document 01's settings, answers and refusals: the definitions, then what a pass of the checks tells.
+pub mod Settings
+pub mod Answers
+pub mod Refusals
+pub mod Passed

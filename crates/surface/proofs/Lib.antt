@@ -1,0 +1,2 @@
+-- What the proofs of several needs share.
+pub mod EveryOther

@@ -1,0 +1,91 @@
+-- `surface::bounds` meets its contract: before vertex v the box is that of the vertices 0 to v - 1. Assumes nothing.
+use mathlib.Core.Path.{_≡_, refl, sym, ap, _∙_}
+use mathlib.Core.List.{List}
+use Prim.Native.Nat.{ℕ, suc, _+_, _-_, _≤_, _<_}
+use native.Mathlib.Omega.{arith}
+use borrow.Author.Needs.{needs}
+use lib.Ieee.{Float}
+use denote.Ref.{now}
+use Rattle.surface.specs.declared.reach.VertexBox.{VertexBox}
+use Rattle.surface.specs.Surface.{vertexCount, vertexAt, reachedBy, boxTo, boxFor, boxOf}
+use Rattle.surface.proofs.reach.bounds.Statement.{statement}
+use Rattle.surface.proofs.reach.bounds.Tie as tie
+
+-- ---- one vertex more, and all
+
+box-more : (vs : List Float) (v : ℕ) → 1 ≤ v → boxTo vs (v + 1 - 1) ≡ reachedBy (boxTo vs (v - 1)) (vertexAt vs v)
+unfolding boxTo
+box-more vs v h =
+    let e : v + 1 - 1 ≡ suc (v - 1) = omega arith in
+    let f : suc (v - 1) ≡ v = omega arith in
+    ap (boxTo vs) e ∙ ap (λ (n : ℕ). reachedBy (boxTo vs (v - 1)) (vertexAt vs n)) f
+
+box-all : (vs : List Float) (n : ℕ) → 0 < n → boxFor vs n ≡ boxTo vs (n - 1)
+box-all vs n h = let e : n ≡ suc (n - 1) = omega arith in ap (boxFor vs) e
+
+-- ---- the needs
+
+abbrev Inv-loop : tie.InvT-loop
+Inv-loop vertices count b₀ v₀ b v = (1 ≤ v) × (v ≤ count) × (b ≡ boxTo vertices (v - 1))
+
+abbrev μ-loop : tie.MeasureT-loop
+μ-loop vertices count b₀ v₀ b v = count - v
+
+returns : tie.Need-returns Inv-loop μ-loop
+unfolding boxOf
+returns c = rw (c .if1 .taken)
+
+place-at-requires : tie.Need-place-at-requires Inv-loop μ-loop
+place-at-requires c κs = omega arith
+
+loop-holds : tie.Need-loop-holds Inv-loop μ-loop
+unfolding boxTo
+loop-holds c = (omega arith, omega arith, rw (c .place-at .ensures))
+
+place-at-requires-2 : tie.Need-place-at-requires-2 Inv-loop μ-loop
+place-at-requires-2 c κs = omega arith
+
+reach-requires : tie.Need-reach-requires Inv-loop μ-loop
+reach-requires c κs = search needs
+
+add-v : tie.Need-add-v Inv-loop μ-loop
+add-v c = omega arith
+
+loop-less : tie.Need-loop-less Inv-loop μ-loop
+loop-less c = omega arith
+
+loop-again : tie.Need-loop-again Inv-loop μ-loop
+loop-again c =
+    let q = c .before .before .before .loop in
+    let vs = now (c .before .before .before .before .before .before .before .args .vertices) in (
+      omega arith,
+      omega arith,
+      c .reach .ensures
+          ∙ ap (λ (p : List Float). reachedBy (q .b) p) (c .before .place-at2 .ensures)
+          ∙ ap (λ (b : VertexBox). reachedBy b (vertexAt vs (q .v))) (q .inv .2)
+          ∙ sym (box-more vs (q .v) (q .inv .0)),
+    )
+
+returns-2 : tie.Need-returns-2 Inv-loop μ-loop
+unfolding boxOf
+returns-2 c =
+    let q = c .before .loop in
+    let vs = now (c .before .before .before .before .before .args .vertices) in
+    let all : q .v ≡ vertexCount vs = omega arith in
+    q .inv .2 ∙ ap (λ (n : ℕ). boxTo vs (n - 1)) all ∙ sym (box-all vs (vertexCount vs) (omega arith))
+
+pub bounds-spec : {M : Type 1} → statement M
+bounds-spec =
+    tie.close
+    (tie.spec
+    Inv-loop
+    μ-loop
+    returns
+    place-at-requires
+    loop-holds
+    place-at-requires-2
+    reach-requires
+    add-v
+    loop-less
+    loop-again
+    returns-2)

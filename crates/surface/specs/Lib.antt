@@ -1,0 +1,4 @@
+-- Document 01's level, orientation and box of the vertices: the definitions, then what is proved of them.
+pub mod Surface
+pub mod FlatFaces
+pub mod Orienting
