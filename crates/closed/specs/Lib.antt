@@ -1,6 +1,12 @@
 pub mod Arcs
+pub mod Bounds
+pub mod Cells
+pub mod Claims
 pub mod Closed
 pub mod Counting
+pub mod Crossings
+pub mod Entries
+pub mod Examples
 pub mod Faces
 pub mod Grid
 pub mod Lists
@@ -11,5 +17,6 @@ pub mod Renumber
 pub mod Rows
 pub mod Sums
 pub mod Table
-pub mod Turning
 pub mod Tested
+pub mod Turning
+pub mod Vertices
