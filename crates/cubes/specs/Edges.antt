@@ -10,7 +10,7 @@ use lib.Dec.{ltb, eqb}
 use lib.ListN.{getD}
 use Rattle.closed.specs.Lists.{every}
 use Rattle.closed.specs.Table.{cubeEdges, cornerAt, endsOf, axisOf, lowOf}
-use Rattle.closed.specs.Counting.{and-true, every-all}
+use Rattle.closed.specs.Counting.{both-true, every-all}
 use Rattle.closed.specs.Renumber.{all-in}
 use Rattle.closed.specs.Tested.{in-cubeEdges}
 use Rattle.cubes.specs.Cube.{placeOf, pairOf}
@@ -21,7 +21,7 @@ twelve t h e b = all-in (λ x. t x ≡ true) cubeEdges (every-all t cubeEdges h)
 
 pub end-small : (e : ℕ) → e < 12 → (endsOf e .0 < 8) × (endsOf e .1 < 8)
 end-small e b =
-    let t = and-true (ltb (endsOf e .0) 8) (ltb (endsOf e .1) 8) (twelve (λ e. ltb (endsOf e .0) 8 && ltb (endsOf e .1) 8) refl e b) in
+    let t = both-true (ltb (endsOf e .0) 8) (ltb (endsOf e .1) 8) (twelve (λ e. ltb (endsOf e .0) 8 && ltb (endsOf e .1) 8) refl e b) in
     (ltb-true (endsOf e .0) 8 (t .0), ltb-true (endsOf e .1) 8 (t .1))
 
 pub axis-small : (e : ℕ) → e < 12 → axisOf e < 3

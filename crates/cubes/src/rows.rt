@@ -28,7 +28,7 @@ pub fn row_faces(table: &[i8; 4096], case: usize) -> usize
 {
     let mut k = 0usize;
     while k < 5 {
-        if row_entry(table, case, k * 3) < 0 {
+        if row_entry(table, case, 3 * k) < 0 {
             return k;
         }
         k += 1;
@@ -41,8 +41,8 @@ pub fn row_face(table: &[i8; 4096], case: usize, k: usize) -> [usize; 3]
     requires { ⌜ (now table ≡ flatTable) × (case < 256) × (k < length (emitted case)) ⌝ }
     ensures { λ r. ⌜ faceOf r ≡ getD (emitted case) k (face 0 0 0) ⌝ }
 {
-    let a = row_edge(table, case, k * 3);
-    let b = row_edge(table, case, k * 3 + 1);
-    let c = row_edge(table, case, k * 3 + 2);
+    let a = row_edge(table, case, 3 * k);
+    let b = row_edge(table, case, 3 * k + 1);
+    let c = row_edge(table, case, 3 * k + 2);
     [a, c, b]
 }

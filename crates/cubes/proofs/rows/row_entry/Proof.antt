@@ -5,7 +5,7 @@ use mathlib.Core.List.{List}
 use Prim.Native.Nat.{_+_, _*_}
 use lib.IntN.{ℤ, pos}
 use lib.ListN.{getD}
-use Rattle.cubes.specs.Entries.{entry-at}
+use Rattle.closed.specs.Entries.{entry-at}
 use Rattle.cubes.proofs.Signed.{entry-back}
 use borrow.Author.Needs.{needs}
 use Rattle.cubes.proofs.rows.row_entry.Statement.{statement}
@@ -25,7 +25,7 @@ returns c =
     let a = c .before .args in
     let h = c .before .pre in
     let i = a .case * 16 + a .t in
-    entry-back (a .case) (a .t) (getD (a .table .now) i (pos 0))
+    entry-back (a .case) (a .t) (getD (a .table .now) i (pos 0)) (h .1)
     (ap (λ (l : List ℤ). getD l i (pos 0)) (h .0) ∙ entry-at (pos 0) (a .case) (a .t) (h .1) (h .2))
 
 pub row-entry-spec : {M : Type 1} → statement M

@@ -1,24 +1,16 @@
 -- `cubes::rows::row_faces` meets its contract.
 -- Assumes nothing.
-use mathlib.Core.Path.{_≡_, _∙_, sym, ap}
-use Prim.Native.Nat.{ℕ, _-_, _*_, _≤_}
+use mathlib.Core.Path.{_∙_, sym}
+use Prim.Native.Nat.{_-_, _*_, _≤_}
 use native.Mathlib.Omega.{arith}
 use borrow.Author.Tests.{leb-true, leb-false}
-use lib.Dec.{leb}
-use lib.IntN.{ℤ, pos}
 use lib.ListN.{length}
-use lib.Signed.{ltZ}
-use mir.Syntax.{w8}
-use mir.Val.{toZ, ofZ}
-use Rattle.closed.specs.Rows.{row, entry, emitted}
-use Rattle.cubes.specs.Entries.{row-thirds, few-faces}
-use Rattle.cubes.proofs.Signed.{entry-back, entry-negative}
+use Rattle.closed.specs.Rows.{row, emitted}
+use Rattle.closed.specs.Entries.{emitted-length}
+use Rattle.closed.specs.Bounds.{emitted-le}
+use Rattle.cubes.proofs.Signed.{tested}
 use Rattle.cubes.proofs.rows.row_faces.Statement.{statement}
 use Rattle.cubes.proofs.rows.row_faces.Tie as tie
-
--- the code's test for the row's end
-tested : (c t : ℕ) (z : ℤ) → z ≡ entry c t → ltZ (toZ w8 (ofZ w8 z)) (pos 0) ≡ leb (length (row c)) t
-tested c t z e = ap (λ (y : ℤ). ltZ y (pos 0)) (entry-back c t z e) ∙ entry-negative c t
 
 abbrev Inv-loop : tie.InvT-loop
 Inv-loop table case k₀ k = (k ≤ length (emitted case)) × (k ≤ 5)
@@ -39,8 +31,8 @@ returns : tie.Need-returns Inv-loop μ-loop
 returns c =
     let l = c .before .before .before .loop in
     let s = c .before .before .before .before in
-    let e = leb-true (length (row (s .args .case))) (l .k * 3) (sym (tested (s .args .case) (l .k * 3) (c .before .row-entry .result) (c .before .row-entry .ensures)) ∙ c .if1 .taken) in
-    omega (arith, e, row-thirds (s .args .case))
+    let e = leb-true (length (row (s .args .case))) (3 * l .k) (sym (tested (s .args .case) (3 * l .k) (c .before .row-entry .result) (s .pre .1) (c .before .row-entry .ensures)) ∙ c .if1 .taken) in
+    omega (arith, e, emitted-length (s .args .case) (s .pre .1))
 
 add-k : tie.Need-add-k Inv-loop μ-loop
 add-k c = omega arith
@@ -52,11 +44,11 @@ loop-again : tie.Need-loop-again Inv-loop μ-loop
 loop-again c =
     let l = c .before .before .before .loop in
     let s = c .before .before .before .before in
-    let e = leb-false (length (row (s .args .case))) (l .k * 3) (sym (tested (s .args .case) (l .k * 3) (c .before .row-entry .result) (c .before .row-entry .ensures)) ∙ c .if1 .left) in
-    (omega (arith, e, row-thirds (s .args .case)), omega arith)
+    let e = leb-false (length (row (s .args .case))) (3 * l .k) (sym (tested (s .args .case) (3 * l .k) (c .before .row-entry .result) (s .pre .1) (c .before .row-entry .ensures)) ∙ c .if1 .left) in
+    (omega (arith, e, emitted-length (s .args .case) (s .pre .1)), omega arith)
 
 returns-2 : tie.Need-returns-2 Inv-loop μ-loop
-returns-2 c = omega (arith, few-faces (c .before .before .args .case))
+returns-2 c = omega (arith, emitted-le (c .before .before .args .case) (c .before .before .pre .1))
 
 pub row-faces-spec : {M : Type 1} → statement M
 row-faces-spec =
