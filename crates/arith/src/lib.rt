@@ -1,7 +1,11 @@
 // Document 01, "Arithmetic": the functions. Each is total, and its contract is an equation with a definition of the crate `numbers`.
+mod narrowing;
 mod patterns;
 mod pick;
+mod root;
+mod steps;
 
+pub use narrowing::narrow;
 pub use numbers::canonical32;
 pub use numbers::canonical64;
 pub use numbers::widen;
@@ -11,3 +15,11 @@ pub use patterns::pattern32;
 pub use patterns::pattern64;
 pub use pick::clamp32;
 pub use pick::clamp64;
+pub use pick::largest;
+pub use pick::least;
+pub use pick::sign;
+pub use root::root32;
+pub use root::root64;
+pub use steps::ceiling;
+pub use steps::floor;
+pub use steps::to_whole;

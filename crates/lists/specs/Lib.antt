@@ -1,5 +1,6 @@
 -- Lists that stand for slices: the definitions, then the laws, a file for each definition.
 pub mod Lists
+pub mod Order
 pub mod Tabulate
 pub mod Fill
 pub mod Part

@@ -1,0 +1,17 @@
+-- `arith::least` meets its contract: the definition picks by the same two tests, since only a NaN differs from itself. Assumes nothing.
+use mathlib.Core.Path.{sym, _∙_}
+use Rattle.numbers.specs.Comparing.{ne-itself}
+use Rattle.arith.proofs.pick.least.Statement.{statement}
+use Rattle.arith.proofs.pick.least.Tie as tie
+
+returns : tie.Need-returns
+returns c = rw (sym (ne-itself (c .before .args .x)) ∙ c .if1 .taken)
+
+returns-2 : tie.Need-returns-2
+returns-2 c = rw (sym (ne-itself (c .before .before .args .x)) ∙ c .before .if1 .left, c .if2 .taken)
+
+returns-3 : tie.Need-returns-3
+returns-3 c = rw (sym (ne-itself (c .before .before .args .x)) ∙ c .before .if1 .left, c .if2 .left)
+
+pub least-spec : {M : Type 1} → statement M
+least-spec = tie.close (tie.spec returns returns-2 returns-3)

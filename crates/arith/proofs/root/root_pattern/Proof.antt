@@ -1,0 +1,138 @@
+-- `arith::root_pattern` meets its contract: `RootPattern` bounds its numbers, and says that its result is the root's pattern. Assumes nothing.
+use borrow.Author.Needs.{needs}
+use mathlib.Core.Path.{_≡_, refl, sym, subst}
+use Prim.Native.Nat.{ℕ, _+_, _-_, _*_, _/_, _^_, _≤_, _<_}
+use native.Mathlib.Omega.{arith}
+use lib.Pow.{pow-mono}
+use lib.Count.{leading-le}
+use lib.Ieee.{prec, emax, hid, ones, ofBits}
+use Rattle.numbers.specs.Arithmetic.{rooted}
+use Rattle.numbers.specs.Squares.{IsRoot}
+use Rattle.arith.specs.RootWords.{IsFormat, RootOf}
+use Rattle.numbers.specs.RootPattern.{Sizes, sizes, Known, known, root-under, power, wide, root-pattern}
+use Rattle.arith.proofs.root.root_pattern.Statement.{statement}
+use Rattle.arith.proofs.root.root_pattern.Tie as tie
+
+-- what the `requires` says of p and e
+of-format : {p e b : ℕ} → IsFormat p e b → Sizes p e
+of-format {p} {e} i = subst (λ (y : ℕ). Sizes p y) (sym (i .reach)) (subst (λ (y : ℕ). Sizes y (emax (i .format))) (sym (i .digits)) (sizes (i .format)))
+
+-- the law, at any format whose numbers p and e are
+meets : (p e b k s r g : ℕ) → IsFormat p e b → k ≡ b / 2 ^ (p - 1) - 1 → s ≡ k * 2 ^ (p - 1) → IsRoot (wide p e k (b - s) * 2 ^ (p + 1)) r
+    → g ≡ power p e k (b - s) / 2 * 2 ^ (p - 1) → RootOf p e b (g + (r + 1) / 2)
+meets p e b k s r g i ke se is ge f dp de =
+    subst (λ (y : ℕ). (ofBits f (y + (r + 1) / 2) ≡ rooted f (ofBits f b)) × (y + (r + 1) / 2 < ones f * hid f)) (sym ge) (at p e dp de (i .above) (i .finite) ke se is)
+  where
+    Goal : ℕ → ℕ → Type 0
+    Goal p e = 0 < b → b < (2 * e + 1) * 2 ^ (p - 1) → k ≡ b / 2 ^ (p - 1) - 1 → s ≡ k * 2 ^ (p - 1) → IsRoot (wide p e k (b - s) * 2 ^ (p + 1)) r
+        → (ofBits f (power p e k (b - s) / 2 * 2 ^ (p - 1) + (r + 1) / 2) ≡ rooted f (ofBits f b)) × (power p e k (b - s) / 2 * 2 ^ (p - 1) + (r + 1) / 2 < ones f * hid f)
+
+    at : (p e : ℕ) → p ≡ prec f → e ≡ emax f → Goal p e
+    at p e dp de = subst (λ (y : ℕ). Goal p y) (sym de) (subst (λ (y : ℕ). Goal y (emax f)) (sym dp) (root-pattern f b k s r))
+
+at-start : (c : tie.Start) → Sizes (c .args .p) (c .args .e)
+at-start c = of-format (c .pre)
+
+at-shifted : (c : tie.After-shifted) → Known (c .before .before .args .p) (c .before .before .args .e) (c .before .before .args .b) (c .before .less-one .result) (c .shifted .result)
+at-shifted c =
+    let a = c .before .before .args in
+    known (a .p) (a .e) (a .b) (c .before .less-one .result) (c .shifted .result) (at-start (c .before .before)) (c .before .before .pre .above) (c .before .before .pre .finite)
+    (c .before .less-one .ensures) (c .shifted .ensures)
+
+at-root : (c : tie.After-whole-root) → IsRoot (wide (c .before .before .before .before .args .p) (c .before .before .before .before .args .e) (c .before .before .before .less-one .result) (c .before .before .before .before .args .b - c .before .before .shifted .result) * 2 ^ (c .before .before .before .before .args .p + 1)) (c .whole-root .result)
+at-root c = subst (λ (y : ℕ). IsRoot (y * 2 ^ (c .before .before .before .before .args .p + 1)) (c .whole-root .result)) (c .before .shifted2 .ensures) (c .whole-root .ensures)
+
+sub-less-one : tie.Need-sub-less-one
+sub-less-one c = omega (arith, at-start c)
+
+shr-less-one : tie.Need-shr-less-one
+shr-less-one c = omega (arith, at-start c)
+
+less-one-requires : tie.Need-less-one-requires
+less-one-requires c κs = search needs
+
+sub-shifted : tie.Need-sub-shifted
+sub-shifted c = omega (arith, at-start (c .before))
+
+shifted-requires : tie.Need-shifted-requires
+shifted-requires c κs =
+    let a = c .before .args in
+    let z = at-start (c .before) in
+    let k = known (a .p) (a .e) (a .b) (c .less-one .result) (c .less-one .result * 2 ^ (a .p - 1)) z (c .before .pre .above) (c .before .pre .finite) (c .less-one .ensures) refl in
+    (omega (arith, k .less), omega arith)
+
+sub-m : tie.Need-sub-m
+sub-m c = at-shifted c .less
+
+cast-z : tie.Need-cast-z
+cast-z c = omega (arith, leading-le 64 (c .before .before .args .b - c .shifted .result))
+
+add-z : tie.Need-add-z
+add-z c = omega (arith, at-start (c .before .before), leading-le 64 (c .before .before .args .b - c .shifted .result))
+
+sub-z : tie.Need-sub-z
+sub-z c = at-shifted c .shift .enough
+
+add-n : tie.Need-add-n
+add-n c = omega (arith, at-start (c .before .before), at-shifted c .field)
+
+sub-n : tie.Need-sub-n
+sub-n c = omega (arith, at-start (c .before .before))
+
+sub-n-2 : tie.Need-sub-n-2
+sub-n-2 c = omega (arith, at-start (c .before .before), at-shifted c .shift .few)
+
+add-shifted : tie.Need-add-shifted
+add-shifted c = omega (arith, at-start (c .before .before), at-shifted c .shift .few)
+
+shifted-requires-2 : tie.Need-shifted-requires-2
+shifted-requires-2 c κs =
+    let z = at-start (c .before .before) in
+    let k = at-shifted c in
+    (omega (arith, k .wide-under, pow-mono {j = 60} (let x : c .before .before .args .p + 1 ≤ 60 = omega arith in x)), omega (arith, k .shift .few))
+
+add-whole-root : tie.Need-add-whole-root
+add-whole-root c = omega (arith, at-start (c .before .before .before))
+
+whole-root-requires : tie.Need-whole-root-requires
+whole-root-requires c κs =
+    let p = c .before .before .before .args .p in
+    let k = at-shifted (c .before) in
+    let z = at-start (c .before .before .before) in
+    let e = sym (c .shifted2 .ensures) in
+    (subst (λ (y : ℕ). y < 2 ^ (p + 1)) e (k .wide-under), subst (λ (y : ℕ). 2 ^ (p + 1) ≤ 4 * y) e (k .wide-over), omega arith, omega arith)
+
+sub-shifted-2 : tie.Need-sub-shifted-2
+sub-shifted-2 c = omega (arith, at-start (c .before .before .before .before))
+
+shifted-requires-3 : tie.Need-shifted-requires-3
+shifted-requires-3 c κs = (omega (arith, at-shifted (c .before .before) .half-under), omega (arith, at-start (c .before .before .before .before)))
+
+-- the root has at most p + 1 digits
+small : (c : tie.After-whole-root) → c .whole-root .result + 1 < 2 ^ 60
+small c =
+    let a = c .before .before .before .before .args in
+    let z = at-start (c .before .before .before .before) in
+    omega (
+      arith,
+      root-under (a .p) (a .e) (a .b) (c .before .before .before .less-one .result) (c .before .before .shifted .result) (c .whole-root .result) z (at-shifted (c .before .before)) (at-root c),
+      pow-mono {j = 60} (let x : a .p + 1 ≤ 60 = omega arith in x),
+    )
+
+add-result : tie.Need-add-result
+add-result c = omega (arith, small (c .before))
+
+add-result-2 : tie.Need-add-result-2
+add-result-2 c = omega (arith, small (c .before), at-shifted (c .before .before .before) .half-under, c .shifted3 .ensures)
+
+returns : tie.Need-returns
+returns c =
+    let d = c .before .before .before .before .before in
+    meets (d .args .p) (d .args .e) (d .args .b) (c .before .before .before .before .less-one .result) (c .before .before .before .shifted .result) (c .before .whole-root .result) (c .shifted3 .result) (d .pre)
+    (c .before .before .before .before .less-one .ensures) (c .before .before .before .shifted .ensures) (at-root (c .before)) (c .shifted3 .ensures)
+
+pub root-pattern-spec : {M : Type 1} → statement M
+root-pattern-spec =
+    tie.close
+    (tie.spec sub-less-one shr-less-one less-one-requires sub-shifted shifted-requires sub-m cast-z add-z sub-z add-n sub-n sub-n-2 add-shifted shifted-requires-2 add-whole-root whole-root-requires
+    sub-shifted-2 shifted-requires-3 add-result add-result-2 returns)

@@ -1,0 +1,26 @@
+-- `arith::ceiling` meets its contract: below 0 it is the floor of -x, negated; a zero and a NaN stay. Assumes nothing.
+use mathlib.Core.Path.{sym, ap, _∙_}
+use borrow.Author.Needs.{needs}
+use lib.Ieee.{neg}
+use Rattle.numbers.specs.Steps.{above-nought, below-nought, at-rest}
+use Rattle.numbers.specs.Symmetry.{floored-neg, neg-neg}
+use Rattle.arith.proofs.steps.ceiling.Statement.{statement}
+use Rattle.arith.proofs.steps.ceiling.Tie as tie
+
+above-requires : tie.Need-above-requires
+above-requires c κs = above-nought (c .before .args .x) (c .if1 .taken)
+
+returns : tie.Need-returns
+returns c = search needs
+
+below-requires : tie.Need-below-requires
+below-requires c κs = below-nought (c .before .before .args .x) (c .if2 .taken)
+
+returns-2 : tie.Need-returns-2
+returns-2 c = let x = c .before .before .before .args .x in ap neg (c .below .ensures ∙ floored-neg x) ∙ neg-neg _
+
+returns-3 : tie.Need-returns-3
+returns-3 c = at-rest (c .before .before .args .x) (c .before .if1 .left) (c .if2 .left) .1
+
+pub ceiling-spec : {M : Type 1} → statement M
+ceiling-spec = tie.close (tie.spec above-requires returns below-requires returns-2 returns-3)

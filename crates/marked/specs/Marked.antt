@@ -1,0 +1,20 @@
+-- Document 01, "How answers are marked": its table of marked cases as one theorem, by computation, of the very definitions that the contracts cite.
+-- `fin s m (pos k)` is ±m * 2 ^ k and `fin s m (negsuc k)` is ±m * 2 ^ -(k + 1). Assumes nothing.
+use mathlib.Core.Path.{_≡_, refl}
+use mathlib.Core.Bool.{false}
+use Prim.Native.Nat.{_+_, _^_}
+use lib.IntN.{pos, negsuc}
+use lib.Ieee.{inf, fin, binary32, binary64, ofBits, round}
+use Rattle.numbers.specs.Arithmetic.{rooted, narrowed}
+
+pub marked :
+    (rooted binary32 (fin false 1 (pos 2)) ≡ fin false 1 (pos 1))  -- P1: the root of 4.0 is 2.0,
+    × (rooted binary64 (fin false 1 (pos 2)) ≡ fin false 1 (pos 1))  -- in both formats
+    × (rooted binary64 (fin false 1 (pos 1)) ≡ ofBits binary64 0x3FF6_A09E_667F_3BCD)  -- P2: the root of f64 2.0
+    × (narrowed (fin false (2 ^ 24 + 1) (negsuc 23)) ≡ fin false 1 (pos 0))  -- P3: narrowing 1 + 2^-24 gives 1
+    × (narrowed (fin false (2 ^ 24 + 3) (negsuc 23)) ≡ fin false (2 ^ 22 + 1) (negsuc 21))  -- P4: 1 + 3·2^-24 gives 1 + 2^-22
+    × (narrowed (fin false 1 (pos 128)) ≡ inf false)  -- P5: 2^128 gives infinity
+    × (narrowed (fin false 1 (negsuc 149)) ≡ fin false 0 (pos 0))  -- P6: 2^-150 gives 0
+    × (narrowed (fin false 3 (negsuc 149)) ≡ fin false 1 (negsuc 147))  -- P7: 3·2^-150 gives 2^-148
+unfolding rooted narrowed round ofBits
+marked = (refl, refl, refl, refl, refl, refl, refl, refl)
