@@ -1,7 +1,7 @@
 -- The word of the contracts inside `narrow`, which speak of magnitudes: the sign is put back at the end. Definitions only.
 use mathlib.Core.Path.{_≡_}
 use mathlib.Core.Bool.{Bool, cond}
-use Prim.Native.Nat.{ℕ, _+_, _*_, _/_, _%_, _^_}
+use Prim.Native.Nat.{ℕ, _+_, _/_, _%_, _^_}
 use lib.Ieee.{binary32, binary64, ofFields, toBits}
 use Rattle.numbers.specs.Arithmetic.{narrowed}
 

@@ -87,7 +87,7 @@ fn root_pattern(b: u64, p: u64, e: u64) -> u64
     shifted(n / 2, p - 1) + (r + 1) / 2
 }
 
-// The root of x at f32: 24 digits, and the largest exponent is 127.
+// The root of x at f32: 24 digits, and the largest exponent is 127. What lies below zero has none, and a zero, of either sign, is its own.
 pub fn root32(x: f32) -> f32
     ensures { λ r. ⌜ r ≡ rooted binary32 x ⌝ }
 {
@@ -102,10 +102,11 @@ pub fn root32(x: f32) -> f32
     if x == 0.0 {
         return x;
     }
-    0.0 / 0.0
+    let none: f32 = 0.0 / 0.0;
+    none
 }
 
-// The root of x at f64: 53 digits, and the largest exponent is 1023.
+// The same at f64: 53 digits, and the largest exponent is 1023.
 pub fn root64(x: f64) -> f64
     ensures { λ r. ⌜ r ≡ rooted binary64 x ⌝ }
 {
@@ -120,5 +121,6 @@ pub fn root64(x: f64) -> f64
     if x == 0.0 {
         return x;
     }
-    0.0 / 0.0
+    let none: f64 = 0.0 / 0.0;
+    none
 }

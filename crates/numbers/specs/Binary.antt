@@ -1,4 +1,5 @@
--- Whole numbers in binary: powers of two in order, how many digits a number has, and what `compare` says. `lib.Ieee` proves some of it for itself and keeps it. Assumes nothing.
+-- Whole numbers in binary: powers of two in order, how many digits a number has, and what `compare` says.
+-- `lib.Ieee` proves some of it for itself and keeps it. Assumes nothing.
 use mathlib.Core.Path.{_≡_, refl, sym, ap, _∙_, subst}
 use Prim.Native.Nat.{ℕ, suc, _+_, _-_, _*_, _^_, _≤_, _<_, compare, Ordering, Ordering·lt, Ordering·eq, Ordering·gt}
 use native.Mathlib.Nat.{le-antisymm, le-of-suc-le-suc, lt-irrefl, lt-of-lt-of-le, lt-of-not-le, not-le-of-lt, mul-assoc, pow-succ'}
@@ -23,6 +24,10 @@ double p P = ap (λ (y : ℕ). 2 ^ y) (let e : p ≡ suc (p - 1) = omega arith i
 
 pub shift-twice : (a i j : ℕ) → a * 2 ^ i * 2 ^ j ≡ a * 2 ^ (i + j)
 shift-twice a i j = mul-assoc a (2 ^ i) (2 ^ j) ∙ ap (λ (x : ℕ). a * x) (sym (pow-add 2 i j))
+
+-- two powers of two multiplied, by their exponents' sums
+pub pow-sums : (a b c d : ℕ) → a + b ≡ c + d → 2 ^ a * 2 ^ b ≡ 2 ^ c * 2 ^ d
+pow-sums a b c d e = sym (pow-add 2 a b) ∙ ap (λ (x : ℕ). 2 ^ x) e ∙ pow-add 2 c d
 
 -- ---- how many digits a number has
 

@@ -1,5 +1,6 @@
--- A fraction is rounded to the nearest whole number, a tie to the even one, by one addition and a division: n / d is (n + (h - 1) + n / d % 2) / d for d = 2 * h (`closest-add`). Half a unit less one
--- is added, and one more where the quotient is odd. What that gives for a power of two d, as code computes it, follows. Assumes nothing.
+-- A fraction is rounded to the nearest whole number, a tie to the even one, by one addition and a division: n / d gives (n + (h - 1) + n / d % 2) / d
+-- for d = 2 * h (`closest-add`). Half a unit less one is added, and one more where the quotient is odd. What that is for a power of two d, as code
+-- computes it, follows. Assumes nothing.
 use mathlib.Core.Path.{_≡_, refl, sym, ap, _∙_, subst}
 use mathlib.Core.Logic.{inl, inr}
 use Prim.Native.Nat.{ℕ, suc, _+_, _-_, _*_, _/_, _%_, _^_, _≤_, _<_, zero-le, compare, Ordering, Ordering·lt, Ordering·eq, Ordering·gt}

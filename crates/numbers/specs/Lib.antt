@@ -26,3 +26,6 @@ pub mod Steps
 pub mod Whole
 pub mod Between
 pub mod Floors
+pub mod RoundNearest
+pub mod RoundOverflow
+pub mod NarrowNearest

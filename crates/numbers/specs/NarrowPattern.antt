@@ -1,10 +1,11 @@
--- The binary32 pattern of what an f64 narrows to, from the f64's pattern. m is that pattern without its sign, x = m / 2 ^ 52 its exponent's field and t = m % 2 ^ 52 its digits. `round` keeps q of the 53 digits and
--- drops the rest, 29 of them for a result in the normal range and more below it, and the pattern is k * 2 ^ 23 + q (`packed`): also where q carries into the exponent, or the result is an infinity. Assumes nothing.
+-- The binary32 pattern of what an f64 narrows to, from the f64's pattern. m is that pattern without its sign, x = m / 2 ^ 52 its exponent's field and
+-- t = m % 2 ^ 52 its digits. `round` keeps a number q of the 53 digits and drops the rest, 29 of them for a result in the normal range and more below
+-- it, and the pattern is k * 2 ^ 23 + q (`packed`): also where q carries into the exponent, or the result is an infinity. Assumes nothing.
 use mathlib.Core.Path.{_≡_, refl, sym, ap, _∙_, subst}
 use mathlib.Core.Logic.{inl, inr}
 use mathlib.Core.Bool.{Bool, true, false, not, cond, false≢true}
 use Prim.Native.Nat.{ℕ, suc, _+_, _-_, _*_, _/_, _%_, _^_, _≤_, _<_, compare}
-use native.Mathlib.Nat.{add-comm, le-trans, le-of-eq, lt-of-lt-of-le, lt-of-le-of-lt, eq-or-lt-of-le, mul-one, mul-le-mul-right, mul-pos, mod-lt, le-div-iff-mul-le, div-lt-iff-lt-mul}
+use native.Mathlib.Nat.{add-comm, le-trans, le-of-eq, lt-of-lt-of-le, lt-of-le-of-lt, eq-or-lt-of-le, mul-assoc, mul-le-mul-right, mul-lt-mul-of-pos-right, mul-pos, mod-lt, le-div-iff-mul-le, div-lt-iff-lt-mul}
 use native.Mathlib.Omega.{arith}
 use lib.Dec.{T, leb, leb→le, nleb→lt, nltb→le, lit≤}
 use lib.Pow.{pow-add, pow-pos, pow-mono, shl-lt}
@@ -15,7 +16,7 @@ use lib.Ieee.Compare.{differs-from-itself}
 use lib.Ieee.Bits.{toBits-lt, ofBits-toBits, nanBits-is, nanBits-above}
 use lib.Ieee.Nearest.{closest, closest-same, nearest-ge}
 use Rattle.numbers.specs.Arithmetic.{narrowed}
-use Rattle.numbers.specs.Binary.{size-gt, shift-twice}
+use Rattle.numbers.specs.Binary.{pow-sums, size-gt, shift-twice}
 use Rattle.numbers.specs.Patterns.{ofBits-is, zero-field, suc-field, toBits-inf, units-inf, packed}
 use Rattle.numbers.specs.NarrowKeeps.{narrowed-val, narrowed-fits, narrowed-nan}
 use Rattle.numbers.specs.ClosestAdd.{closest-past}
@@ -38,18 +39,21 @@ module _ (s : Bool) (a k : ℕ) (lo : 2 ^ 52 ≤ a) (hi : a < 2 ^ 53) where
 
   digits-ge : 23 + k < size (big / 2 ^ 1074)
   digits-ge =
-      let e : 2 ^ (23 + k) * 2 ^ 1074 ≡ 2 ^ 52 * 2 ^ (1045 + k) = sym (pow-add 2 (23 + k) 1074) ∙ ap (λ (x : ℕ). 2 ^ x) (let z : 23 + k + 1074 ≡ 52 + (1045 + k) = omega arith in z) ∙ pow-add 2 52 (1045 + k) in
-      size-gt (big / 2 ^ 1074) (23 + k) (le-div-iff-mul-le (pow-pos 1074) .1 (le-trans (le-of-eq e) (le-trans (mul-le-mul-right (2 ^ (1045 + k)) lo) (le-of-eq (sym big-is)))))
+      let e : 2 ^ (23 + k) * 2 ^ 1074 ≡ 2 ^ 52 * 2 ^ (1045 + k) = pow-sums (23 + k) 1074 52 (1045 + k) (omega arith) in
+      size-gt (big / 2 ^ 1074) (23 + k)
+      (le-div-iff-mul-le (pow-pos 1074) .1 (le-trans (le-of-eq e) (le-trans (mul-le-mul-right (2 ^ (1045 + k)) lo) (le-of-eq (sym big-is)))))
 
   digits-le : size (big / 2 ^ 1074) ≤ 24 + k
   digits-le =
-      let e : 2 ^ (53 + (1045 + k)) ≡ 2 ^ (24 + k) * 2 ^ 1074 = ap (λ (x : ℕ). 2 ^ x) (let z : 53 + (1045 + k) ≡ 24 + k + 1074 = omega arith in z) ∙ pow-add 2 (24 + k) 1074 in
-      size-le (big / 2 ^ 1074) (24 + k) (div-lt-iff-lt-mul (pow-pos 1074) .1 (lt-of-le-of-lt (le-of-eq big-is) (lt-of-lt-of-le (shl-lt 53 (1045 + k) hi) (le-of-eq e))))
+      let e : 2 ^ 53 * 2 ^ (1045 + k) ≡ 2 ^ (24 + k) * 2 ^ 1074 = pow-sums 53 (1045 + k) (24 + k) 1074 (omega arith) in
+      size-le (big / 2 ^ 1074) (24 + k)
+      (div-lt-iff-lt-mul (pow-pos 1074) .1 (lt-of-le-of-lt (le-of-eq big-is) (lt-of-lt-of-le (mul-lt-mul-of-pos-right hi (pow-pos (1045 + k))) (le-of-eq e))))
+
+  same : big * 2 ^ 29 ≡ a * (2 ^ 1074 * 2 ^ k)
+  same = ap (λ (x : ℕ). x * 2 ^ 29) big-is ∙ mul-assoc a (2 ^ (1045 + k)) (2 ^ 29) ∙ ap (λ (x : ℕ). a * x) (pow-sums (1045 + k) 29 1074 k (omega arith))
 
   round-normal : round binary32 s (a * 2 ^ (896 + k)) (2 ^ 1074) ≡ units binary32 s (closest a (2 ^ 29)) k
   round-normal =
-      let same : big * 2 ^ 29 ≡ a * (2 ^ 1074 * 2 ^ k) =
-      ap (λ (x : ℕ). x * 2 ^ 29) big-is ∙ shift-twice a (1045 + k) 29 ∙ ap (λ (x : ℕ). a * 2 ^ x) (let z : 1045 + k + 29 ≡ 1074 + k = omega arith in z) ∙ ap (λ (x : ℕ). a * x) (pow-add 2 1074 k) in
       round-to s (a * 2 ^ (896 + k)) (2 ^ 1074) (closest a (2 ^ 29)) k (count k (size (big / 2 ^ 1074)) digits-ge digits-le)
       (closest-same big (2 ^ 1074 * 2 ^ k) a (2 ^ 29) (mul-pos (pow-pos 1074) (pow-pos k)) (pow-pos 29) same)
     where
@@ -68,8 +72,10 @@ round-small s a j hi J =
     let n = a * 2 ^ j * 2 ^ 149 in
     let is : n ≡ a * 2 ^ (j + 149) = shift-twice a j 149 in
     let room : 2 ^ (53 + (j + 149)) ≤ 2 ^ 23 * 2 ^ 1074 = le-trans (pow-mono {j = 23 + 1074} (let z : 53 + (j + 149) ≤ 23 + 1074 = omega arith in z)) (le-of-eq (pow-add 2 23 1074)) in
-    let h : size (n / 2 ^ 1074) ≤ 23 = size-le (n / 2 ^ 1074) 23 (div-lt-iff-lt-mul (pow-pos 1074) .1 (lt-of-le-of-lt (le-of-eq is) (lt-of-lt-of-le (shl-lt 53 (j + 149) hi) room))) in
-    let same : n * 2 ^ (925 - j) ≡ a * (2 ^ 1074 * 2 ^ 0) = ap (λ (x : ℕ). x * 2 ^ (925 - j)) is ∙ shift-twice a (j + 149) (925 - j) ∙ ap (λ (x : ℕ). a * 2 ^ x) (let z : j + 149 + (925 - j) ≡ 1074 = omega arith in z) ∙ ap (λ (x : ℕ). a * x) (sym (mul-one (2 ^ 1074))) in
+    let below : n < 2 ^ 23 * 2 ^ 1074 = lt-of-le-of-lt (le-of-eq is) (lt-of-lt-of-le (shl-lt 53 (j + 149) hi) room) in
+    let h : size (n / 2 ^ 1074) ≤ 23 = size-le (n / 2 ^ 1074) 23 (div-lt-iff-lt-mul (pow-pos 1074) .1 below) in
+    let powers : 2 ^ (j + 149) * 2 ^ (925 - j) ≡ 2 ^ 1074 * 2 ^ 0 = pow-sums (j + 149) (925 - j) 1074 0 (omega arith) in
+    let same : n * 2 ^ (925 - j) ≡ a * (2 ^ 1074 * 2 ^ 0) = ap (λ (x : ℕ). x * 2 ^ (925 - j)) is ∙ mul-assoc a (2 ^ (j + 149)) (2 ^ (925 - j)) ∙ ap (λ (x : ℕ). a * x) powers in
     round-to s (a * 2 ^ j) (2 ^ 1074) (closest a (2 ^ (925 - j))) 0 (count (size (n / 2 ^ 1074)) h)
     (closest-same n (2 ^ 1074 * 2 ^ 0) a (2 ^ (925 - j)) (mul-pos (pow-pos 1074) (pow-pos 0)) (pow-pos (925 - j)) same)
   where
@@ -130,7 +136,8 @@ at-large s k t h K F =
     let a = 2 ^ 52 + t in
     let l = with-lead t h in
     let z = kept-normal s a k (l .0) (l .1) in
-    let room : 2 ^ 277 ≤ closest a (2 ^ 29) * 2 ^ k = le-trans (pow-mono {i = 277} (let z : 277 ≤ 23 + k = omega arith in z)) (le-trans (le-of-eq (pow-add 2 23 k)) (mul-le-mul-right (2 ^ k) (z .0))) in
+    let far : 2 ^ 277 ≤ 2 ^ 23 * 2 ^ k = le-trans (pow-mono {i = 277} (let z : 277 ≤ 23 + k = omega arith in z)) (le-of-eq (pow-add 2 23 k)) in
+    let room : 2 ^ 277 ≤ closest a (2 ^ 29) * 2 ^ k = le-trans far (mul-le-mul-right (2 ^ k) (z .0)) in
     ap (toBits binary32) (narrowed-suc s (896 + k) t F ∙ round-normal s a k (l .0) (l .1) ∙ units-inf binary32 s (closest a (2 ^ 29)) k room) ∙ toBits-inf binary32 s
 
 at-inf : (s : Bool) → result s 2047 0 ≡ sign s + 255 * 2 ^ 23
@@ -145,11 +152,12 @@ digits-in m = mod-lt m (pow-pos 52)
 pub small-zero : (m r : ℕ) (s : Bool) → m / 2 ^ 52 ≡ 0 → r ≡ closest (m % 2 ^ 52) (2 ^ 925) → result s (m / 2 ^ 52) (m % 2 ^ 52) ≡ sign s + r
 small-zero m r s e h = ap (λ (x : ℕ). result s x (m % 2 ^ 52)) e ∙ at-zero s (m % 2 ^ 52) (digits-in m) ∙ ap (λ (x : ℕ). sign s + x) (sym h)
 
-pub small-field : (m r : ℕ) (s : Bool) → (m / 2 ^ 52 ≡ 0 → ⊥) → m < 897 * 2 ^ 52 → r ≡ closest (m % 2 ^ 52 + 2 ^ 52) (2 ^ (926 - m / 2 ^ 52)) → result s (m / 2 ^ 52) (m % 2 ^ 52) ≡ sign s + r
+pub small-field : (m r : ℕ) (s : Bool) → (m / 2 ^ 52 ≡ 0 → ⊥) → m < 897 * 2 ^ 52
+    → r ≡ closest (m % 2 ^ 52 + 2 ^ 52) (2 ^ (926 - m / 2 ^ 52)) → result s (m / 2 ^ 52) (m % 2 ^ 52) ≡ sign s + r
 small-field m r s n l h =
     let t = m % 2 ^ 52 in
     let j = m / 2 ^ 52 - 1 in
-    let is : r ≡ closest (2 ^ 52 + t) (2 ^ (925 - j)) = h ∙ ap (λ (x : ℕ). closest x (2 ^ (926 - m / 2 ^ 52))) (add-comm t (2 ^ 52)) ∙ ap (λ (x : ℕ). closest (2 ^ 52 + t) (2 ^ x)) (by m n) in
+    let is : r ≡ closest (2 ^ 52 + t) (2 ^ (925 - j)) = h ∙ (λ i. closest (add-comm t (2 ^ 52) i) (2 ^ by m n i)) in
     ap (λ (x : ℕ). result s x t) (pred m n) ∙ at-small s j t (digits-in m) (low m l) ∙ ap (λ (x : ℕ). sign s + x) (sym is)
   where
     pred : (m : ℕ) → (m / 2 ^ 52 ≡ 0 → ⊥) → m / 2 ^ 52 ≡ suc (m / 2 ^ 52 - 1)

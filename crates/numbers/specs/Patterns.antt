@@ -1,15 +1,15 @@
--- A bit pattern and its value, in either format: the value that a pattern's fields stand for (`value`), and the pattern of q * 2 ^ k of the format's smallest values (`packed`).
--- So two values of a format that have one sign and one size are the same (`same-value`). Assumes nothing.
+-- A bit pattern and its value, in either format: the value that a pattern's fields stand for (`value`), and the pattern of q * 2 ^ k of the format's
+-- smallest values (`packed`). So two values of a format that have one sign and one size are the same (`same-value`). Assumes nothing.
 use mathlib.Core.Path.{_≡_, refl, sym, ap, _∙_, subst}
 use mathlib.Core.Logic.{_⊎_, inl, inr}
 use mathlib.Core.Bool.{Bool, true, false, not, cond}
 use Prim.Native.Nat.{ℕ, zero, suc, _+_, _-_, _*_, _/_, _%_, _^_, _≤_, _<_}
-use native.Mathlib.Nat.{le-refl, le-trans, le-of-eq, le-of-lt, lt-irrefl, lt-of-lt-of-le, lt-of-le-of-lt, not-le-of-lt, eq-zero-or-pos, eq-or-lt-of-le, zero-add, add-assoc, mul-comm, mul-assoc, mul-one, suc-mul, zero-mul, mul-le-mul-right, mul-div-cancel, div-add-mod', div-lt-iff-lt-mul, mod-eq-of-lt}
+use native.Mathlib.Nat.{le-refl, le-trans, le-of-eq, le-of-lt, lt-irrefl, lt-of-lt-of-le, lt-of-le-of-lt, not-le-of-lt, eq-zero-or-pos, eq-or-lt-of-le, zero-add, add-assoc, mul-comm, mul-one, suc-mul, zero-mul, mul-le-mul-right, mul-div-cancel, div-add-mod', div-lt-iff-lt-mul, mod-eq-of-lt}
 use native.Mathlib.Omega.{arith}
 use lib.Dec.{T, leb, ltb, eqb, ltb→lt, nltb→le, leb→le, eqb→eq, not-T}
 use lib.Arith.{lt→nleb}
 use lib.Pow.{pow-add, pow-pos, pow-mono, pow-lt, shl-lt, shl-shr}
-use lib.Ieee.{Float, nan, inf, fin, Format, prec, emax, low, up, down, size, odd, units, fits, hid, ones, top, ofFields, ofBits, nanBits, toBits}
+use lib.Ieee.{Float, nan, inf, fin, Format, prec, emax, low, down, size, odd, units, fits, hid, ones, top, ofFields, ofBits, nanBits, toBits}
 use lib.Ieee.Digits.{size-le}
 use lib.Ieee.Fits.{two, two-le-pos, odd-fits, inf-fits, down-pos}
 use lib.Ieee.Bits.{is-false, cond-no, ofBits-toBits, nanBits-above}
@@ -31,8 +31,11 @@ pub suc-field : (f : Format) (s : Bool) (j t : ℕ) → suc j < ones f → HasVa
 unfolding ofFields
 suc-field f s j t h =
     let v = odd (prec f) s (hid f + t) j (low f) in
-    let below : T (not (eqb (suc j) (ones f))) = not-T (eqb (suc j) (ones f)) (λ (u : T (eqb (suc j) (ones f))). lt-irrefl (ones f) (subst (λ (y : ℕ). y < ones f) (eqb→eq (suc j) (ones f) u) h)) in
-    subst (λ (w : Float). HasValue w s ((hid f + t) * 2 ^ j) (2 ^ low f)) (sym (cond-no (eqb (suc j) (ones f)) (cond (eqb t 0) (inf s) nan) v below)) (odd-sign (prec f) s (hid f + t) j (low f))
+    subst (λ (w : Float). HasValue w s ((hid f + t) * 2 ^ j) (2 ^ low f)) (sym (cond-no (eqb (suc j) (ones f)) (cond (eqb t 0) (inf s) nan) v (not-T (eqb (suc j) (ones f)) below)))
+    (odd-sign (prec f) s (hid f + t) j (low f))
+  where
+    below : T (eqb (suc j) (ones f)) → ⊥
+    below u = lt-irrefl (ones f) (subst (λ (y : ℕ). y < ones f) (eqb→eq (suc j) (ones f) u) h)
 
 -- The exponent and the significand of the pattern b of a value that is not negative, in a format of p digits: its value is sig * 2 ^ expo of the smallest values.
 -- A field of 0 counts as a field of 1.
@@ -79,7 +82,8 @@ no-nan f n h = subst (λ (y : Bool). T (not y)) (sym (nanBits-above f n)) (not-T
 
 -- ---- writing: the pattern of n units of the smallest value
 
-pub toBits-val : (f : Format) (v : Float) (s : Bool) (n : ℕ) → HasValue v s n (2 ^ low f) → toBits f v ≡ cond s (top f) 0 + (size n - prec f) * hid f + n / 2 ^ (size n - prec f)
+pub toBits-val : (f : Format) (v : Float) (s : Bool) (n : ℕ) → HasValue v s n (2 ^ low f)
+    → toBits f v ≡ cond s (top f) 0 + (size n - prec f) * hid f + n / 2 ^ (size n - prec f)
 unfolding toBits
 toBits-val f nan s n h = absurd h
 toBits-val f (inf t) s n h = absurd h
@@ -159,12 +163,15 @@ units-fits f s q k a = go (ltb (q * 2 ^ k) (2 ^ (low f + suc (emax f)))) (ltb→
 -- only 2 ^ p with the most zeros reaches the infinity
 full : (p e q k : ℕ) → 2 ≤ p → q ≤ 2 ^ p → k + 1 < 2 * e + 1 → 2 ^ (e + p - 2 + suc e) ≤ q * 2 ^ k → (q ≡ 2 ^ p) × (k + 1 ≡ 2 * e)
 full p e q k P hi K h = elim (eq-or-lt-of-le hi) [
-  | inr l ↦ absurd (not-le-of-lt (lt-of-lt-of-le (shl-lt p k l) (pow-mono (let z : p + k ≤ e + p - 2 + suc e = omega arith in z))) h)
+  | inr l ↦ absurd (short p l (let z : p + k ≤ e + p - 2 + suc e = omega arith in z))
   | inl i ↦ elim (eq-or-lt-of-le (let z : k + 1 ≤ 2 * e = omega arith in z)) [
     | inl j ↦ (i, j)
-    | inr g ↦ absurd (not-le-of-lt (lt-of-lt-of-le (shl-lt (suc p) k (lt-of-le-of-lt hi (pow-lt (le-refl (suc p))))) (pow-mono (let z : suc p + k ≤ e + p - 2 + suc e = omega arith in z))) h)
+    | inr g ↦ absurd (short (suc p) (lt-of-le-of-lt hi (pow-lt (le-refl (suc p)))) (let z : suc p + k ≤ e + p - 2 + suc e = omega arith in z))
   ]
 ]
+  where
+    short : (d : ℕ) → q < 2 ^ d → d + k ≤ e + p - 2 + suc e → ⊥
+    short d l r = not-le-of-lt (lt-of-lt-of-le (shl-lt d k l) (pow-mono r)) h
 
 -- also where a carry makes it an infinity
 pub packed : (f : Format) (s : Bool) (q k : ℕ) → q ≤ 2 ^ prec f → (0 < k → hid f ≤ q) → k + 1 < ones f → toBits f (units f s q k) ≡ pattern f s k q

@@ -1,5 +1,5 @@
--- The four cases of a root, by the comparisons of x with 0 and with the infinity, once for both formats: x is finite and above zero, the infinity, a zero, or none of these; the root is known in the last three.
--- In the first, the pattern of x lies between 0 and the infinity's (`pattern-of`). Assumes nothing.
+-- The four cases of a root, by the comparisons of x with 0 and with the infinity, once for both formats: x is finite and above zero, the infinity,
+-- a zero, or none of these; the root is known in the last three. In the first, the pattern of x lies between 0 and the infinity's (`pattern-of`). Assumes nothing.
 use mathlib.Core.Path.{_≡_, refl, sym, _∙_, subst}
 use mathlib.Core.Logic.{_⊎_, inl, inr}
 use mathlib.Core.Bool.{Bool, true, false, not, _&&_, _||_, Bool·beq, cond, true≢false}

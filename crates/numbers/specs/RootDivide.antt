@@ -1,5 +1,5 @@
--- The lower half of a root's digits by one division. t has the root s, and n is t * a * a. With q = (t - s * s) * a / (2 * s), s * a + q is the root of n, or one more than that (`exact`, `less`).
--- The reason is the balance n + q ^ 2 = (s * a + q) ^ 2 + over * a, where `over` is the remainder of the division. Assumes nothing.
+-- The lower half of a root's digits by one division. t has the root s, and n is t * a * a. With q = (t - s * s) * a / (2 * s), s * a + q is the root
+-- of n, or one more than that (`exact`, `less`). The reason is the balance n + q ^ 2 = (s * a + q) ^ 2 + over * a, where `over` is the remainder of the division. Assumes nothing.
 use mathlib.Core.Path.{_≡_, sym, ap, _∙_}
 use Prim.Native.Nat.{ℕ, _+_, _-_, _*_, _/_, _%_, _^_, _≤_, _<_}
 use native.Mathlib.Nat.{le-trans, le-of-eq, lt-of-lt-of-le, lt-of-le-of-lt, mul-comm, mul-assoc, mul-right-comm, le-mul-of-pos-right, mul-mul-mul-comm, add-mul, mul-le-mul, mul-le-mul-left, mul-le-mul-right, mul-lt-mul-of-pos-right, le-of-mul-le-mul-right, div-mul-le-self, lt-div-mul-add}
@@ -144,7 +144,9 @@ module _ (x h s : ℕ) (X : x < 2 ^ h) (L : 2 ^ h ≤ 4 * x) (T : 2 ≤ h) (H : 
   all =
       mul-assoc x (2 ^ (h % 2)) (a * a)
       ∙ ap (λ (y : ℕ). x * y)
-      (ap (λ (y : ℕ). 2 ^ (h % 2) * y) square ∙ sym (pow-add 2 (h % 2) (h / 2 + h / 2)) ∙ ap (λ (y : ℕ). 2 ^ y) (let z : h % 2 + (h / 2 + h / 2) ≡ h = omega arith in z))
+      (ap (λ (y : ℕ). 2 ^ (h % 2) * y) square
+      ∙ sym (pow-add 2 (h % 2) (h / 2 + h / 2))
+      ∙ ap (λ (y : ℕ). 2 ^ y) (let z : h % 2 + (h / 2 + h / 2) ≡ h = omega arith in z))
 
   full : a * a ≤ 4 * t
   full =

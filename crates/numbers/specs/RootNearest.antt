@@ -1,6 +1,7 @@
--- IEEE 754's squareRoot: `rooted f x` is the value of the format f that is nearest to the infinitely precise root of x (`rooted-nearest`), and the only one (`rooted-only`). There is no tie: every other value is
--- strictly further from √x. r is nearer to √x than a larger y where √x lies below their middle (r + y) / 2, and than a smaller y where it lies above.
--- In units of the format's smallest value 2 ^ -low, with x = n / 4 ^ low, r = R units and y = Y units, both sides squared, that compares 4 * n with (R + Y) ^ 2. Assumes nothing.
+-- IEEE 754's squareRoot: `rooted f x` is the value of the format f that is nearest to the infinitely precise root of x (`rooted-nearest`), and the only
+-- one (`rooted-only`). There is no tie: every other value is strictly further from √x.
+-- r is nearer to √x than a larger y where √x lies below their middle (r + y) / 2, and than a smaller y where it lies above. In units of the format's
+-- smallest value 2 ^ -low, with x = n / 4 ^ low, r = R units and y = Y units, both sides squared, that compares 4 * n with (R + Y) ^ 2. Assumes nothing.
 use mathlib.Core.Path.{_≡_, refl, sym, ap, _∙_, subst}
 use mathlib.Core.Logic.{_⊎_, inl, inr}
 use Prim.Native.Nat.{ℕ, zero, suc, _+_, _-_, _*_, _/_, _%_, _^_, _≤_, _<_, compare, Ordering, Ordering·lt, Ordering·eq, Ordering·gt}
@@ -20,7 +21,7 @@ use Rattle.numbers.specs.Binary.{double, shift-twice, Cmp, cmp}
 use Rattle.numbers.specs.Squares.{square-sum, sum-square, square-mono, square-lt}
 use Rattle.numbers.specs.RootWhole.{whole-is, whole-lt, dropped, middle, kept, rootRounded-is}
 use Rattle.numbers.specs.RootOrder.{quotient-ge, kept-le, kept-ge}
-use Rattle.numbers.specs.Spacing.{gap, Held, held, place, place-of, value-once, digits-of}
+use Rattle.numbers.specs.Spacing.{gap, Held, held, place, place-of, value-once, Digits, digits-of}
 use Rattle.numbers.specs.Patterns.{same-value, units-fits}
 
 -- ---- the statement
@@ -29,8 +30,8 @@ use Rattle.numbers.specs.Patterns.{same-value, units-fits}
 abbrev pub Nearer : ℕ → ℕ → ℕ → Type 0
 Nearer n R Y = (R < Y → 4 * n < (R + Y) * (R + Y)) × (Y < R → (R + Y) * (R + Y) < 4 * n)
 
--- r is the value of the format f that is nearest to √x, for an x above zero: x is n / 4 ^ low exactly, r is R units and above zero, and every value y of the format
--- that is not below zero is r or is further away. (One below zero is further away than 0 is.)
+-- r is the value of the format f that is nearest to √x, for an x above zero: x is n / 4 ^ low exactly, r is R units and above zero, and every value y of
+-- the format that is not below zero is r or is further away. (One below zero is further away than 0 is.)
 pub record NearestRoot (f : Format) (x r : Float) : Type 0 where
   pub n : ℕ
   pub exact : HasValue x false n (2 ^ low f * 2 ^ low f)
@@ -45,12 +46,12 @@ module _ (n l h m y : ℕ) (mid : m ≡ l + h) (low-square : l * l ≤ n) (high-
   take-low : 4 * n < m * m → Nearer n l y
   take-low s = (
     λ (g : l < y). let z : h ≤ y = step g in lt-of-lt-of-le s (square-mono (let w : m ≤ l + y = omega arith in w)),
-    λ (g : y < l). lt-of-lt-of-le (square-lt (l + y) (l + l) (let w : l + y < l + l = omega arith in w)) (le-trans (le-of-eq (sum-square l)) (mul-le-mul-left 4 low-square)),
+    λ (g : y < l). let w = square-lt (l + y) (l + l) (omega arith) in let z = sum-square l in (let i : (l + y) * (l + y) < 4 * n = omega arith in i),
   )
 
   take-high : m * m < 4 * n → Nearer n h y
   take-high s = (
-    λ (g : h < y). lt-of-lt-of-le (let w : 4 * n < 4 * (h * h) = omega arith in w) (le-trans (le-of-eq (sym (sum-square h))) (square-mono (let w : h + h ≤ h + y = omega arith in w))),
+    λ (g : h < y). let w = square-lt (h + h) (h + y) (omega arith) in let z = sum-square h in (let i : 4 * n < (h + y) * (h + y) = omega arith in i),
     λ (g : y < h).
         let z : y ≤ l = le-of-suc-le-suc (lt-of-not-le (λ (b : suc l ≤ y). not-le-of-lt g (step b))) in
         lt-of-le-of-lt (square-mono (let w : h + y ≤ m = omega arith in w)) s,
@@ -66,7 +67,8 @@ odd-part o m a b O e = go (ltb b a) (ltb→lt b a) (nltb→le b a)
     go true l g =
         let h = l tt in
         let i = a - b - 1 in
-        let s : m * 2 ^ a ≡ m * 2 ^ i * 2 ^ 1 * 2 ^ b = ap (λ (y : ℕ). m * 2 ^ y) (let z : a ≡ i + 1 + b = omega arith in z) ∙ sym (shift-twice m (i + 1) b) ∙ ap (λ (y : ℕ). y * 2 ^ b) (sym (shift-twice m i 1)) in
+        let z : a ≡ i + 1 + b = omega arith in
+        let s : m * 2 ^ a ≡ m * 2 ^ i * 2 ^ 1 * 2 ^ b = ap (λ (y : ℕ). m * 2 ^ y) z ∙ sym (shift-twice m (i + 1) b) ∙ ap (λ (y : ℕ). y * 2 ^ b) (sym (shift-twice m i 1)) in
         let x : o ≡ m * 2 ^ i * 2 = eq-of-mul-eq-mul-right (2 ^ b) (pow-pos b) o (m * 2 ^ i * 2) (e ∙ s) in
         absurd (let z : ⊥ = omega arith in z)
     go false l g =
@@ -125,8 +127,8 @@ module _ (f : Format) (n d i : ℕ) (D : d < 2 ^ prec f) (N : n ≡ d * 2 ^ i) (
   P : 0 < prec f
   P = two-le-pos (prec f) (two f)
 
-  chosen : (k q : ℕ) (o : Ordering) → (0 < k → 2 ^ (prec f - 1) ≤ q) → q * 2 ^ k * (q * 2 ^ k) ≤ n → n < (q + 1) * 2 ^ k * ((q + 1) * 2 ^ k) → Cmp o (4 * n) (middle q k * middle q k)
-      → Nearer n (nearest q o * 2 ^ k) (a * 2 ^ j)
+  chosen : (k q : ℕ) (o : Ordering) → (0 < k → 2 ^ (prec f - 1) ≤ q) → q * 2 ^ k * (q * 2 ^ k) ≤ n → n < (q + 1) * 2 ^ k * ((q + 1) * 2 ^ k)
+      → Cmp o (4 * n) (middle q k * middle q k) → Nearer n (nearest q o * 2 ^ k) (a * 2 ^ j)
   chosen k q Ordering·lt full lo hi c = take-low n (q * 2 ^ k) ((q + 1) * 2 ^ k) (middle q k) (a * 2 ^ j) (mid-is q (2 ^ k)) lo hi (gap (prec f) k q a j P full A) c
   chosen k q Ordering·gt full lo hi c =
       subst (λ (t : ℕ). Nearer n (t * 2 ^ k) (a * 2 ^ j)) (let z : q + 1 ≡ suc q = omega arith in z)
@@ -219,6 +221,11 @@ module _ (f : Format) (m : ℕ) (e : ℤ) (H : Held f m e) where
   scaled-pos : 0 < m → 0 < scaled f m e
   scaled-pos M = first-pos (scaled f m e) (down e) (subst (λ (y : ℕ). 0 < y) exactly (mul-pos (mul-pos M (up-pos e)) (mul-pos (pow-pos (low f)) (pow-pos (low f)))))
 
+  near : (Y : ℕ) → Digits f Y → Nearer (scaled f m e) (result f (scaled f m e)) Y
+  near Y d =
+      let n = scaled f m e in
+      subst (λ (t : ℕ). Nearer n (result f n) t) (sym (d .is)) (nearer f n m raised (H .digits) scaled-is (d .a) (d .j) (d .few))
+
   nearest-at : 0 < m → NearestRoot f (fin false m e) (rootRounded f (scaled f m e))
   nearest-at M =
       let n = scaled f m e in
@@ -229,7 +236,7 @@ module _ (f : Format) (m : ℕ) (e : ℤ) (H : Held f m e) where
         value = root-value;
         fit = subst (λ (r : Float). T (fits f r)) (sym (rootRounded-is f n)) (units-fits f false (kept n (dropped f n)) (dropped f n) (kept-le f n));
         above = positive-of-value (rootRounded f n) (result f n) (2 ^ low f) root-value (result-pos f n (scaled-pos M));
-        best = λ y Y F G. let d = digits-of f y false Y F G in subst (λ (t : ℕ). Nearer n (result f n) t) (sym (d .is)) (nearer f n m raised (H .digits) scaled-is (d .a) (d .j) (d .few));
+        best = λ y Y F G. near Y (digits-of f y false Y F G);
       }
 
 -- ---- the theorems

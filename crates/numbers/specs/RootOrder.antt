@@ -1,4 +1,5 @@
--- Of two values that are not negative the larger has the root that is no smaller: `rooted-mono`. It holds in either format, of zeros of either sign, subnormal values and the infinity. Assumes nothing.
+-- Of two values that are not negative the larger has the root that is no smaller: `rooted-mono`. It holds in either format, of zeros of either sign,
+-- subnormal values and the infinity. So the root of a value that is not negative is not negative, and no NaN. Assumes nothing.
 use mathlib.Core.Path.{_≡_, refl, sym, ap, _∙_, subst}
 use mathlib.Core.Logic.{_⊎_, inl, inr}
 use Prim.Native.Nat.{ℕ, zero, suc, _+_, _-_, _*_, _/_, _%_, _^_, _≤_, _<_, zero-le, compare, Ordering, Ordering·lt, Ordering·eq, Ordering·gt}
@@ -36,7 +37,8 @@ pub quotient-ge : (f : Format) (n : ℕ) → 0 < dropped f n → 2 ^ (prec f - 1
 quotient-ge f n h =
     let k = dropped f n in
     let P : 0 < prec f = two-le-pos (prec f) (two f) in
-    le-div-iff-mul-le (pow-pos k) .1 (le-trans (le-of-eq (sym (pow-add 2 (prec f - 1) k))) (size-reaches (whole n) (prec f - 1 + k) (let z : prec f - 1 + k < size (whole n) = omega arith in z)))
+    let reached : 2 ^ (prec f - 1 + k) ≤ whole n = size-reaches (whole n) (prec f - 1 + k) (omega arith) in
+    le-div-iff-mul-le (pow-pos k) .1 (le-trans (le-of-eq (sym (pow-add 2 (prec f - 1) k))) reached)
 
 pub kept-le : (f : Format) (n : ℕ) → kept n (dropped f n) ≤ 2 ^ prec f
 kept-le f n =
@@ -65,9 +67,10 @@ kept-mono n m k h = go (eq-or-lt-of-le (shr-mono k (whole-mono n m h)))
     go : (whole n / 2 ^ k ≡ whole m / 2 ^ k) ⊎ (whole n / 2 ^ k < whole m / 2 ^ k) → kept n k ≤ kept m k
     go (inl e) =
         let q = whole m / 2 ^ k in
+        let c = middle q k * middle q k in
         subst (λ (y : ℕ). nearest y (compare (4 * n) (middle y k * middle y k)) ≤ kept m k) (sym e)
-        (nearest-mono q (4 * n) (4 * m) (middle q k * middle q k) (compare (4 * n) (middle q k * middle q k)) (compare (4 * m) (middle q k * middle q k)) (cmp (4 * n) (middle q k * middle q k)) (cmp (4 * m) (middle q k * middle q k)) (mul-le-mul-left 4 h))
-    go (inr l) = le-trans (nearest-le (whole n / 2 ^ k) (compare (4 * n) (middle (whole n / 2 ^ k) k * middle (whole n / 2 ^ k) k))) (le-trans l (kept-ge m k))
+        (nearest-mono q (4 * n) (4 * m) c (compare (4 * n) c) (compare (4 * m) c) (cmp (4 * n) c) (cmp (4 * m) c) (mul-le-mul-left 4 h))
+    go (inr l) = let q = whole n / 2 ^ k in le-trans (nearest-le q (compare (4 * n) (middle q k * middle q k))) (le-trans l (kept-ge m k))
 
 -- Either both drop as many digits, and then the kept numbers are in order. Or the smaller drops fewer, and then a power of two lies between the two results.
 pub grid-mono : (f : Format) (n m : ℕ) → n ≤ m → kept n (dropped f n) * 2 ^ dropped f n ≤ kept m (dropped f m) * 2 ^ dropped f m
@@ -103,8 +106,10 @@ units-mono f q j r k h =
     go : (x y : Bool) → (T (not x) → 2 ^ (low f + suc (emax f)) ≤ q * 2 ^ j) → (T y → r * 2 ^ k < 2 ^ (low f + suc (emax f)))
         → T (le (cond x (odd (suc (prec f)) false q j (low f)) (inf false)) (cond y (odd (suc (prec f)) false r k (low f)) (inf false)))
     go true true a b =
-        le-of-values (odd (suc (prec f)) false q j (low f)) (odd (suc (prec f)) false r k (low f)) (q * 2 ^ j) (2 ^ low f) (r * 2 ^ k) (2 ^ low f) (pow-pos (low f)) (pow-pos (low f))
-        (odd-sign (suc (prec f)) false q j (low f)) (odd-sign (suc (prec f)) false r k (low f)) (mul-le-mul-right (2 ^ low f) h)
+        let d = suc (prec f) in
+        let l = low f in
+        le-of-values (odd d false q j l) (odd d false r k l) (q * 2 ^ j) (2 ^ l) (r * 2 ^ k) (2 ^ l) (pow-pos l) (pow-pos l) (odd-sign d false q j l) (odd-sign d false r k l)
+        (mul-le-mul-right (2 ^ l) h)
     go true false a b = le-inf (odd (suc (prec f)) false q j (low f)) (q * 2 ^ j) (2 ^ low f) (odd-sign (suc (prec f)) false q j (low f))
     go false true a b = absurd (let u = a tt in let v = b tt in let z : ⊥ = omega arith in z)
     go false false a b = unfold le in tt
@@ -202,7 +207,10 @@ below-zero true m e d h = none m d e (0 * up e * down d) (flat e d) (le-of-or (s
         go : T (ltb a b) ⊎ T (eqb b a && true) → a ≤ b
         go (inl u) = le-of-lt (ltb→lt a b u)
         go (inr u) = le-of-eq (sym (eqb→eq b a (and-l (eqb b a) true u)))
-below-zero false m e d h = none m d e (0 * up e * down d) (flat e d) (le-of-eq (sym (eqb→eq (0 * up e * down d) (suc m * up d * down e) (and-l (eqb (0 * up e * down d) (suc m * up d * down e)) (eqb (0 * up e * down d) 0) h))))
+below-zero false m e d h =
+    let a = 0 * up e * down d in
+    let b = suc m * up d * down e in
+    none m d e a (flat e d) (le-of-eq (sym (eqb→eq a b (and-l (eqb a b) (eqb a 0) h))))
 
 pub rooted-mono : (f : Format) (x y : Float) → T (le (fin false 0 (pos 0)) x) → T (le x y) → T (le (rooted f x) (rooted f y))
 unfolding le rooted
@@ -223,7 +231,8 @@ rooted-mono f (fin false (suc m) e) nan h k = absurd k
 rooted-mono f (fin false (suc m) e) (inf true) h k = absurd k
 rooted-mono f (fin false (suc m) e) (inf false) h k = plain-le-inf (rootRounded f (scaled f (suc m) e)) (rounded-plain f (scaled f (suc m) e))
 rooted-mono f (fin false (suc m) e) (fin true n d) h k =
-    absurd (none m e d 0 refl (le-of-eq (eqb→eq (suc m * up e * down d) 0 (and-r (eqb (suc m * up e * down d) (n * up d * down e)) (eqb (suc m * up e * down d) 0) k))))
+    let a = suc m * up e * down d in
+    absurd (none m e d 0 refl (le-of-eq (eqb→eq a 0 (and-r (eqb a (n * up d * down e)) (eqb a 0) k))))
 rooted-mono f (fin false (suc m) e) (fin false zero d) h k = absurd (none m e d (0 * up d * down e) (flat d e) (lt-or-eq (suc m * up e * down d) (0 * up d * down e) true k))
 rooted-mono f (fin false (suc m) e) (fin false (suc n) d) h k =
     rootRounded-mono f (scaled f (suc m) e) (scaled f (suc n) d) (scaled-mono f (suc m) e (suc n) d (lt-or-eq (suc m * up e * down d) (suc n * up d * down e) true k))

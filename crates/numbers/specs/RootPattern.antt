@@ -1,5 +1,6 @@
--- The pattern of a root from the pattern b of x, which is finite and above zero: k and m are x's exponent and significand, z zeros put the leading digit of m in its place, and r is the root of that, with
--- one zero more where the exponent n = k + e - 1 - z is odd, and p + 1 zeros. Then n / 2 is the root's exponent, and (r + 1) / 2 its significand (`root-pattern`). Assumes nothing.
+-- The pattern of a root from the pattern b of x, which is finite and above zero: k and m are x's exponent and significand, z zeros put the leading digit
+-- of m in its place, and r is the root of that, with one zero more where the exponent n = k + e - 1 - z is odd, and p + 1 zeros. Then n / 2 is the root's
+-- exponent, and (r + 1) / 2 its significand (`root-pattern`). Assumes nothing.
 use mathlib.Core.Path.{_≡_, sym, ap, _∙_, subst}
 use mathlib.Core.Logic.{inl, inr}
 use mathlib.Core.Bool.{true, false, true≢false}
@@ -13,7 +14,7 @@ use lib.Ieee.{Float, nan, inf, fin, Format, binary32, binary64, prec, emax, low,
 use lib.Ieee.Fits.{down-pos}
 use lib.Ieee.Exact.{HasValue}
 use Rattle.numbers.specs.Arithmetic.{rootRounded, rooted}
-use Rattle.numbers.specs.Binary.{pow-lt-back, double, shift-twice}
+use Rattle.numbers.specs.Binary.{pow-lt-back, pow-sums, double, shift-twice}
 use Rattle.numbers.specs.Squares.{IsRoot, square-sum, square-lt-back}
 use Rattle.numbers.specs.RootWhole.{rounded-is}
 use Rattle.numbers.specs.Patterns.{expo, sig, value, written, written-lt}
@@ -119,7 +120,7 @@ module _ (p m z c : ℕ) (P : 2 ≤ p) (lo : 2 ^ (p - 1) ≤ m * 2 ^ z) (hi : m 
   module _ (r : ℕ) (is : IsRoot (w * 2 ^ (p + 1)) r) where
     root-ge : 2 ^ p ≤ r
     root-ge =
-        let s : 2 ^ p * 2 ^ p ≡ 2 ^ (p - 1) * 2 ^ (p + 1) = sym (pow-add 2 p p) ∙ ap (λ (y : ℕ). 2 ^ y) (let x : p + p ≡ p - 1 + (p + 1) = omega arith in x) ∙ pow-add 2 (p - 1) (p + 1) in
+        let s : 2 ^ p * 2 ^ p ≡ 2 ^ (p - 1) * 2 ^ (p + 1) = pow-sums p p (p - 1) (p + 1) (omega arith) in
         le-of-suc-le-suc
         (subst (λ (y : ℕ). 2 ^ p < y) (let x : r + 1 ≡ suc r = omega arith in x)
         (square-lt-back (2 ^ p) (r + 1) (lt-of-le-of-lt (le-trans (le-of-eq s) (mul-le-mul-right (2 ^ (p + 1)) wide-ge)) (is .1))))
@@ -201,7 +202,8 @@ rooted-is f (fin false (suc m) e) a v A =
     ∙ ap (rootRounded f) (mul-div-cancel (a * 2 ^ low f) (down-pos e))
 
 -- ---- the law
-module _ (f : Format) (b k s r : ℕ) (B : 0 < b) (F : b < ones f * hid f) (ke : k ≡ expo (prec f) b) (se : s ≡ k * hid f) (is : IsRoot (wide (prec f) (emax f) k (b - s) * 2 ^ (prec f + 1)) r) where
+module _ (f : Format) (b k s r : ℕ) (B : 0 < b) (F : b < ones f * hid f) (ke : k ≡ expo (prec f) b) (se : s ≡ k * hid f)
+    (is : IsRoot (wide (prec f) (emax f) k (b - s) * 2 ^ (prec f + 1)) r) where
   abbrev p : ℕ
   p = prec f
 
@@ -231,7 +233,8 @@ module _ (f : Format) (b k s r : ℕ) (B : 0 < b) (F : b < ones f * hid f) (ke :
   root-of-digits lo hi =
       let ev = even p m (zeros p m) (n % 2) (z .two) (facts .shift .low) (facts .shift .high) (omega arith) in
       let small : r < 2 ^ suc p = subst (λ (y : ℕ). r < 2 ^ y) (let x : p + 1 ≡ suc p = omega arith in x) (let x : r < 2 ^ (p + 1) = omega arith in x) in
-      rounded-is (m * 2 ^ k * 2 ^ low f) (wide p (emax f) k m * 2 ^ (p + 1)) (n / 2) r is (scale p (emax f) m k (zeros p m) (z .two) (z .reach) (facts .shift .few)) f lo small ev
+      let scaled = scale p (emax f) m k (zeros p m) (z .two) (z .reach) (facts .shift .few) in
+      rounded-is (m * 2 ^ k * 2 ^ low f) (wide p (emax f) k m * 2 ^ (p + 1)) (n / 2) r is scaled f lo small ev
 
   pub root-pattern : (ofBits f (n / 2 * hid f + (r + 1) / 2) ≡ rooted f (ofBits f b)) × (n / 2 * hid f + (r + 1) / 2 < ones f * hid f)
   root-pattern =

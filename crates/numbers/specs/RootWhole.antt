@@ -1,4 +1,5 @@
--- `whole n` is the whole part of √n (`whole-is`), and `rootRounded` is known from any integer root of prec + 1 digits (`rounded-is`): the law that a program's integer root is to meet. Assumes nothing.
+-- `whole n` is the whole part of √n (`whole-is`), and `rootRounded` is known from any integer root of prec + 1 digits (`rounded-is`): the law that a
+-- program's integer root is to meet. Assumes nothing.
 use mathlib.Core.Path.{_≡_, refl, sym, ap, _∙_, subst}
 use Prim.Native.Nat.{ℕ, zero, suc, _+_, _-_, _*_, _/_, _%_, _^_, _≤_, _<_, zero-le, compare}
 use native.Mathlib.Nat.{le-refl, le-trans, le-of-eq, le-of-suc-le-suc, lt-of-lt-of-le, lt-of-le-of-lt, mul-assoc, mul-mul-mul-comm, mul-pos, mul-le-mul-right, mul-lt-mul-of-pos-right, pow-succ', div-eq-of-lt-le}

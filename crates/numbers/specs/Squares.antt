@@ -1,6 +1,6 @@
 -- Squares of whole numbers, and the number r that is √n cut to a whole number: r * r ≤ n < (r + 1) * (r + 1). Assumes nothing.
 use mathlib.Core.Path.{_≡_, ap, _∙_}
-use Prim.Native.Nat.{ℕ, suc, _+_, _*_, _≤_, _<_}
+use Prim.Native.Nat.{ℕ, _+_, _*_, _≤_, _<_}
 use native.Mathlib.Nat.{le-of-lt, lt-of-le-of-lt, lt-of-not-le, not-le-of-lt, mul-comm, mul-mul-mul-comm, mul-add, add-mul, mul-le-mul, mul-le-mul-left, mul-lt-mul-of-pos-right}
 use native.Mathlib.Omega.{arith}
 

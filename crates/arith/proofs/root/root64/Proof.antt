@@ -1,4 +1,5 @@
--- `arith::root64` meets its contract: by the tests x is finite and above zero, the infinity, a zero, or none of these (`RootCases`), and the first has `root_pattern`'s pattern. Assumes nothing.
+-- `arith::root64` meets its contract: by the tests x is finite and above zero, the infinity, a zero, or none of these (`RootCases`), and the
+-- first has `root_pattern`'s pattern. Assumes nothing.
 use mathlib.Core.Path.{refl, sym, ap, _∙_, subst}
 use lib.Dec.{T}
 use lib.Ieee.{binary64, fits, ofBits, div}
@@ -30,7 +31,9 @@ float-from-bits-result : tie.Need-float-from-bits-result
 float-from-bits-result c = no-nan binary64 (c .root-pattern .result) (c .root-pattern .ensures binary64 refl refl .1)
 
 returns : tie.Need-returns
-returns c = c .root-pattern .ensures binary64 refl refl .0 ∙ ap (rooted binary64) (ofBits-toBits binary64 (c .before .before .before .args .x) (held (c .before .before .before)))
+returns c =
+    let d = c .before .before .before in
+    c .root-pattern .ensures binary64 refl refl .0 ∙ ap (rooted binary64) (ofBits-toBits binary64 (d .args .x) (held d))
 
 returns-2 : tie.Need-returns-2
 unfolding ofBits div

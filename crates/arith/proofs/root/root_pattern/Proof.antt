@@ -9,6 +9,7 @@ use lib.Ieee.{prec, emax, hid, ones, ofBits}
 use Rattle.numbers.specs.Arithmetic.{rooted}
 use Rattle.numbers.specs.Squares.{IsRoot}
 use Rattle.arith.specs.RootWords.{IsFormat, RootOf}
+use Rattle.numbers.specs.Patterns.{expo}
 use Rattle.numbers.specs.RootPattern.{Sizes, sizes, Known, known, root-under, power, wide, root-pattern}
 use Rattle.arith.proofs.root.root_pattern.Statement.{statement}
 use Rattle.arith.proofs.root.root_pattern.Tie as tie
@@ -17,30 +18,70 @@ use Rattle.arith.proofs.root.root_pattern.Tie as tie
 of-format : {p e b : ℕ} → IsFormat p e b → Sizes p e
 of-format {p} {e} i = subst (λ (y : ℕ). Sizes p y) (sym (i .reach)) (subst (λ (y : ℕ). Sizes y (emax (i .format))) (sym (i .digits)) (sizes (i .format)))
 
+-- the pattern that the code makes of its numbers
+abbrev made : ℕ → ℕ → ℕ → ℕ → ℕ → ℕ
+made p e k m r = power p e k m / 2 * 2 ^ (p - 1) + (r + 1) / 2
+
 -- the law, at any format whose numbers p and e are
-meets : (p e b k s r g : ℕ) → IsFormat p e b → k ≡ b / 2 ^ (p - 1) - 1 → s ≡ k * 2 ^ (p - 1) → IsRoot (wide p e k (b - s) * 2 ^ (p + 1)) r
+meets : (p e b k s r g : ℕ) → IsFormat p e b → k ≡ expo p b → s ≡ k * 2 ^ (p - 1) → IsRoot (wide p e k (b - s) * 2 ^ (p + 1)) r
     → g ≡ power p e k (b - s) / 2 * 2 ^ (p - 1) → RootOf p e b (g + (r + 1) / 2)
-meets p e b k s r g i ke se is ge f dp de =
-    subst (λ (y : ℕ). (ofBits f (y + (r + 1) / 2) ≡ rooted f (ofBits f b)) × (y + (r + 1) / 2 < ones f * hid f)) (sym ge) (at p e dp de (i .above) (i .finite) ke se is)
+meets p e b k s r g i ke se is ge f dp de = subst (λ (y : ℕ). Right (y + (r + 1) / 2)) (sym ge) (at p e dp de (i .above) (i .finite) ke se is)
   where
+    Right : ℕ → Type 0
+    Right y = (ofBits f y ≡ rooted f (ofBits f b)) × (y < ones f * hid f)
+
     Goal : ℕ → ℕ → Type 0
-    Goal p e = 0 < b → b < (2 * e + 1) * 2 ^ (p - 1) → k ≡ b / 2 ^ (p - 1) - 1 → s ≡ k * 2 ^ (p - 1) → IsRoot (wide p e k (b - s) * 2 ^ (p + 1)) r
-        → (ofBits f (power p e k (b - s) / 2 * 2 ^ (p - 1) + (r + 1) / 2) ≡ rooted f (ofBits f b)) × (power p e k (b - s) / 2 * 2 ^ (p - 1) + (r + 1) / 2 < ones f * hid f)
+    Goal p e = 0 < b → b < (2 * e + 1) * 2 ^ (p - 1) → k ≡ expo p b → s ≡ k * 2 ^ (p - 1) → IsRoot (wide p e k (b - s) * 2 ^ (p + 1)) r → Right (made p e k (b - s) r)
 
     at : (p e : ℕ) → p ≡ prec f → e ≡ emax f → Goal p e
     at p e dp de = subst (λ (y : ℕ). Goal p y) (sym de) (subst (λ (y : ℕ). Goal y (emax f)) (sym dp) (root-pattern f b k s r))
 
+-- ---- what is known at each place
+
 at-start : (c : tie.Start) → Sizes (c .args .p) (c .args .e)
 at-start c = of-format (c .pre)
 
-at-shifted : (c : tie.After-shifted) → Known (c .before .before .args .p) (c .before .before .args .e) (c .before .before .args .b) (c .before .less-one .result) (c .shifted .result)
-at-shifted c =
-    let a = c .before .before .args in
-    known (a .p) (a .e) (a .b) (c .before .less-one .result) (c .shifted .result) (at-start (c .before .before)) (c .before .before .pre .above) (c .before .before .pre .finite)
-    (c .before .less-one .ensures) (c .shifted .ensures)
+-- of k and of k shifted
+at-less-one : (c : tie.After-less-one) (s : ℕ) → s ≡ c .less-one .result * 2 ^ (c .before .args .p - 1) → Known (c .before .args .p) (c .before .args .e) (c .before .args .b) (c .less-one .result) s
+at-less-one c s e =
+    let a = c .before .args in
+    known (a .p) (a .e) (a .b) (c .less-one .result) s (at-start (c .before)) (c .before .pre .above) (c .before .pre .finite) (c .less-one .ensures) e
 
-at-root : (c : tie.After-whole-root) → IsRoot (wide (c .before .before .before .before .args .p) (c .before .before .before .before .args .e) (c .before .before .before .less-one .result) (c .before .before .before .before .args .b - c .before .before .shifted .result) * 2 ^ (c .before .before .before .before .args .p + 1)) (c .whole-root .result)
-at-root c = subst (λ (y : ℕ). IsRoot (y * 2 ^ (c .before .before .before .before .args .p + 1)) (c .whole-root .result)) (c .before .shifted2 .ensures) (c .whole-root .ensures)
+at-shifted : (c : tie.After-shifted) → Known (c .before .before .args .p) (c .before .before .args .e) (c .before .before .args .b) (c .before .less-one .result) (c .shifted .result)
+at-shifted c = at-less-one (c .before) (c .shifted .result) (c .shifted .ensures)
+
+-- of the root r, with the code's names for the other numbers
+abbrev start : tie.After-whole-root → tie.Start
+start c = c .before .before .before .before
+
+abbrev p : tie.After-whole-root → ℕ
+p c = start c .args .p
+
+abbrev e : tie.After-whole-root → ℕ
+e c = start c .args .e
+
+abbrev b : tie.After-whole-root → ℕ
+b c = start c .args .b
+
+abbrev k : tie.After-whole-root → ℕ
+k c = c .before .before .before .less-one .result
+
+abbrev s : tie.After-whole-root → ℕ
+s c = c .before .before .shifted .result
+
+abbrev r : tie.After-whole-root → ℕ
+r c = c .whole-root .result
+
+at-root : (c : tie.After-whole-root) → IsRoot (wide (p c) (e c) (k c) (b c - s c) * 2 ^ (p c + 1)) (r c)
+at-root c = subst (λ (y : ℕ). IsRoot (y * 2 ^ (p c + 1)) (r c)) (c .before .shifted2 .ensures) (c .whole-root .ensures)
+
+-- it has at most p + 1 digits
+small : (c : tie.After-whole-root) → r c + 1 < 2 ^ 60
+small c =
+    let z = at-start (start c) in
+    omega (arith, root-under (p c) (e c) (b c) (k c) (s c) (r c) z (at-shifted (c .before .before)) (at-root c), pow-mono {j = 60} (let x : p c + 1 ≤ 60 = omega arith in x))
+
+-- ---- the needs, in the code's order
 
 sub-less-one : tie.Need-sub-less-one
 sub-less-one c = omega (arith, at-start c)
@@ -56,10 +97,8 @@ sub-shifted c = omega (arith, at-start (c .before))
 
 shifted-requires : tie.Need-shifted-requires
 shifted-requires c κs =
-    let a = c .before .args in
     let z = at-start (c .before) in
-    let k = known (a .p) (a .e) (a .b) (c .less-one .result) (c .less-one .result * 2 ^ (a .p - 1)) z (c .before .pre .above) (c .before .pre .finite) (c .less-one .ensures) refl in
-    (omega (arith, k .less), omega arith)
+    (omega (arith, at-less-one c (c .less-one .result * 2 ^ (c .before .args .p - 1)) refl .less), omega arith)
 
 sub-m : tie.Need-sub-m
 sub-m c = at-shifted c .less
@@ -108,17 +147,6 @@ sub-shifted-2 c = omega (arith, at-start (c .before .before .before .before))
 shifted-requires-3 : tie.Need-shifted-requires-3
 shifted-requires-3 c κs = (omega (arith, at-shifted (c .before .before) .half-under), omega (arith, at-start (c .before .before .before .before)))
 
--- the root has at most p + 1 digits
-small : (c : tie.After-whole-root) → c .whole-root .result + 1 < 2 ^ 60
-small c =
-    let a = c .before .before .before .before .args in
-    let z = at-start (c .before .before .before .before) in
-    omega (
-      arith,
-      root-under (a .p) (a .e) (a .b) (c .before .before .before .less-one .result) (c .before .before .shifted .result) (c .whole-root .result) z (at-shifted (c .before .before)) (at-root c),
-      pow-mono {j = 60} (let x : a .p + 1 ≤ 60 = omega arith in x),
-    )
-
 add-result : tie.Need-add-result
 add-result c = omega (arith, small (c .before))
 
@@ -127,9 +155,8 @@ add-result-2 c = omega (arith, small (c .before), at-shifted (c .before .before 
 
 returns : tie.Need-returns
 returns c =
-    let d = c .before .before .before .before .before in
-    meets (d .args .p) (d .args .e) (d .args .b) (c .before .before .before .before .less-one .result) (c .before .before .before .shifted .result) (c .before .whole-root .result) (c .shifted3 .result) (d .pre)
-    (c .before .before .before .before .less-one .ensures) (c .before .before .before .shifted .ensures) (at-root (c .before)) (c .shifted3 .ensures)
+    let d = c .before in
+    meets (p d) (e d) (b d) (k d) (s d) (r d) (c .shifted3 .result) (start d .pre) (d .before .before .before .less-one .ensures) (d .before .before .shifted .ensures) (at-root d) (c .shifted3 .ensures)
 
 pub root-pattern-spec : {M : Type 1} → statement M
 root-pattern-spec =

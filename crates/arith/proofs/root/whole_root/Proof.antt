@@ -10,7 +10,7 @@ use Rattle.arith.proofs.root.whole_root.Statement.{statement}
 use Rattle.arith.proofs.root.whole_root.Tie as tie
 
 -- what the numbers are, where the upper half is known
-at-root : (c : tie.After-small-root) → Split (c .before .before .args .x * 2 ^ c .before .before .args .h) (c .before .shifted .result) (c .small-root .result) (2 ^ (c .before .before .args .h / 2))
+at-root : (c : tie.After-small-root) → let a = c .before .before .args in Split (a .x * 2 ^ a .h) (c .before .shifted .result) (c .small-root .result) (2 ^ (a .h / 2))
 at-root c =
     let a = c .before .before .args in
     let p = c .before .before .pre in
@@ -65,7 +65,8 @@ mul-if1 c = omega (arith, square-small _ _ _ _ (at-root (c .before .before)) (c 
 
 shifted-requires-4 : tie.Need-shifted-requires-4
 shifted-requires-4 c κs =
-    (omega (arith, over-small _ _ _ _ (at-root (c .before .before)) (c .before .shifted2 .result) (c .before .shifted2 .ensures), product-lt _ _ _ _ (at-root (c .before .before))), omega arith)
+    let k = at-root (c .before .before) in
+    (omega (arith, over-small _ _ _ _ k (c .before .shifted2 .result) (c .before .shifted2 .ensures), product-lt _ _ _ _ k), omega arith)
 
 sub-result : tie.Need-sub-result
 sub-result c =
