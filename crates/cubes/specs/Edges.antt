@@ -3,12 +3,12 @@
 use mathlib.Core.Path.{_≡_, refl, sym, ap, _∙_}
 use mathlib.Core.Bool.{Bool, true, cond, _&&_}
 use mathlib.Core.List.{List}
-use Prim.Native.Nat.{ℕ, zero, suc, _<_}
+use Prim.Native.Nat.{ℕ, zero, suc, _+_, _≤_, _<_}
 use native.Mathlib.Omega.{arith}
-use borrow.Author.Tests.{ltb-true, eqb-true}
-use lib.Dec.{ltb, eqb}
+use borrow.Author.Tests.{leb-true, ltb-true, eqb-true}
+use lib.Dec.{leb, ltb, eqb}
 use lib.ListN.{getD}
-use Rattle.closed.specs.Lists.{every}
+use Rattle.closed.specs.Lists.{bit, every}
 use Rattle.closed.specs.Table.{cubeEdges, cornerAt, endsOf, axisOf, lowOf}
 use Rattle.closed.specs.Counting.{both-true, every-all}
 use Rattle.closed.specs.Renumber.{all-in}
@@ -29,6 +29,20 @@ axis-small e b = ltb-true (axisOf e) 3 (twelve (λ e. ltb (axisOf e) 3) refl e b
 
 pub low-small : (e : ℕ) → e < 12 → lowOf e < 8
 low-small e b = ltb-true (lowOf e) 8 (twelve (λ e. ltb (lowOf e) 8) refl e b)
+
+-- the lower end lies at most one step from corner 0 along each axis, and so does the upper one
+pub record InCube (e : ℕ) : Type 0 where
+  pub x : cornerAt (lowOf e) .0 + bit (eqb 0 (axisOf e)) ≤ 1
+  pub y : cornerAt (lowOf e) .1 + bit (eqb 1 (axisOf e)) ≤ 1
+  pub z : cornerAt (lowOf e) .2 + bit (eqb 2 (axisOf e)) ≤ 1
+
+pub in-cube : (e : ℕ) → e < 12 → InCube e
+in-cube e b =
+    record {
+      x = leb-true (cornerAt (lowOf e) .0 + bit (eqb 0 (axisOf e))) 1 (twelve (λ e. leb (cornerAt (lowOf e) .0 + bit (eqb 0 (axisOf e))) 1) refl e b);
+      y = leb-true (cornerAt (lowOf e) .1 + bit (eqb 1 (axisOf e))) 1 (twelve (λ e. leb (cornerAt (lowOf e) .1 + bit (eqb 1 (axisOf e))) 1) refl e b);
+      z = leb-true (cornerAt (lowOf e) .2 + bit (eqb 2 (axisOf e))) 1 (twelve (λ e. leb (cornerAt (lowOf e) .2 + bit (eqb 2 (axisOf e))) 1) refl e b);
+    }
 
 -- the count along an axis
 abbrev along : ℕ × ℕ × ℕ → ℕ → ℕ

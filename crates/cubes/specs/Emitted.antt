@@ -9,10 +9,10 @@ use Rattle.closed.specs.Faces.{Face, face, corners}
 use Rattle.closed.specs.Rows.{emitted}
 use Rattle.closed.specs.Entries.{row-right, emitted-length, emitted-at}
 
-abbrev OfCube : Face → Type 0
+abbrev pub OfCube : Face → Type 0
 OfCube f = All (λ e. e < 12) (corners (f ∷ []))
 
-face-edges : (c k : ℕ) → c < 256 → k < length (emitted c) → OfCube (getD (emitted c) k (face 0 0 0))
+pub face-edges : (c k : ℕ) → c < 256 → k < length (emitted c) → OfCube (getD (emitted c) k (face 0 0 0))
 face-edges c k h b =
     let n = emitted-length c h in
     let edge = row-right c h .edges in

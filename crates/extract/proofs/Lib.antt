@@ -1,0 +1,4 @@
+pub mod Cells
+pub mod FirstUse
+pub mod Marking
+pub mod Rows
