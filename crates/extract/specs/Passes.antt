@@ -3,7 +3,7 @@
 use mathlib.Core.Path.{_≡_}
 use mathlib.Core.Bool.{cond}
 use mathlib.Core.List.{List, [], _∷_, map, foldl}
-use Prim.Native.Nat.{ℕ, suc, _+_, _-_, _*_, _≤_, _<_}
+use Prim.Native.Nat.{ℕ, suc, _+_, _-_, _*_, _%_, _≤_, _<_}
 use lib.Dec.{eqb}
 use lib.Ieee.{Float}
 use lib.ListN.{length, getD, set}
@@ -15,7 +15,7 @@ use Rattle.closed.specs.Numbering.{slot}
 use Rattle.closed.specs.Table.{cornerAt, lowOf, axisOf, caseOf}
 use Rattle.closed.specs.Rows.{emitted}
 use Rattle.closed.specs.Grid.{node, edge}
-use Rattle.grid.specs.Grid.{Counts}
+use Rattle.grid.specs.Grid.{Counts, nodeOf}
 use Rattle.grid.specs.declared.Lattice.{Lattice}
 use Rattle.extract.specs.Extraction.{countX, countY, countZ, isBelow, edgeFaces, vertexEdges}
 use Rattle.extract.specs.declared.Totals.{Totals}
@@ -51,6 +51,16 @@ planeFaces values ny nz iso n j = cells j (λ b. lineFaces values ny nz iso (n +
 
 abbrev pub blockFaces : (values : List Float) (ny nz : ℕ) (iso : Float) (i : ℕ) → List Face
 blockFaces values ny nz iso i = cells i (λ a. planeFaces values ny nz iso (a * (ny * nz)) (ny - 1))
+
+-- ---- an edge of the lattice: the number of its upper node is greater by the stride of its axis
+
+unfoldable pub stride : (ny nz axis : ℕ) → ℕ
+stride ny nz axis = cond (eqb axis 0) (ny * nz) (cond (eqb axis 1) nz 1)
+
+-- both its nodes have a value, and there are no more of those than there are nodes
+pub record Inner (values : List Float) (l : Lattice) (e : ℕ) : Type 0 where
+  pub upper : nodeOf e + stride (countY l) (countZ l) (e % 3) < length values
+  pub most : length values ≤ 16777216
 
 -- ---- numbering: the table, and how many edges have a number
 

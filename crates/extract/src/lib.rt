@@ -2,6 +2,7 @@
 // written: `number_edges` gives each crossed edge its vertex number in a lent table and answers V and F, `write_mesh` writes the vertices and the faces.
 mod cell;
 mod number;
+mod point;
 
 pub use cell::below;
 pub use number::number_edges;
