@@ -18,10 +18,12 @@ enum Values {
     Wild,
 }
 
+// The value of m; exact in f32.
 fn plain(m: u32) -> f32 {
     arith::narrow((m as f64 - 48.0) / 8.0)
 }
 
+// The same with the ends of the format in between.
 fn wild(m: u32) -> f32 {
     if m < 10 {
         return -0.0;
@@ -47,6 +49,7 @@ fn wild(m: u32) -> f32 {
     plain(m)
 }
 
+// The value of node q.
 fn value(kind: Values, q: usize) -> f32
     requires { ⌜ q < 65536 ⌝ }
 {
@@ -58,6 +61,7 @@ fn value(kind: Values, q: usize) -> f32
     }
 }
 
+// Values for as many nodes as there is room for.
 fn fill(values: &mut [f32], kind: Values)
     requires { ⌜ length (now values) ≤ 512 ⌝ }
     ensures { λ _. ⌜ length (now (values .exit)) ≡ length (now (values .entry)) ⌝ }
@@ -122,6 +126,7 @@ fn offset(t: usize) -> f64 {
 
 // ---- samples
 
+// The sample at the place with the coordinates a, b and 3a+b of their axes.
 fn sample(g: Grid, values: &[f32], a: usize, b: usize)
     requires { ⌜ Sides (g .nodes) ⌝ }
     requires { ⌜ length (now values) ≡ g .nodes * g .nodes * g .nodes ⌝ }
@@ -137,6 +142,7 @@ fn sample(g: Grid, values: &[f32], a: usize, b: usize)
     io::print_hex(STDOUT_FILENO, arith::pattern64(g.sample(values, p)), 16);
 }
 
+// The samples of one y.
 fn row(g: Grid, values: &[f32], b: usize)
     requires { ⌜ Sides (g .nodes) ⌝ }
     requires { ⌜ length (now values) ≡ g .nodes * g .nodes * g .nodes ⌝ }
@@ -150,6 +156,7 @@ fn row(g: Grid, values: &[f32], b: usize)
     io::write_all(STDOUT_FILENO, b"\n");
 }
 
+// The samples of all.
 fn rows(g: Grid, values: &[f32])
     requires { ⌜ Sides (g .nodes) ⌝ }
     requires { ⌜ length (now values) ≡ g .nodes * g .nodes * g .nodes ⌝ }
@@ -163,6 +170,7 @@ fn rows(g: Grid, values: &[f32])
 
 // ---- a grid and its values
 
+// The grid of a depth. Its step is no exact number but for depth 1.
 fn cube(depth: u32) -> Grid
     requires { ⌜ (1 ≤ depth) × (depth ≤ 3) ⌝ }
     ensures { λ r. ⌜ Sides (r .nodes) × (r .nodes * r .nodes * r .nodes ≤ 512) ⌝ }
@@ -170,6 +178,7 @@ fn cube(depth: u32) -> Grid
     Grid::new([-1.0, 0.5, 0.1], 2.5, depth)
 }
 
+// Samples of one grid with one kind of values.
 fn run(name: &[u8], depth: u32, kind: Values)
     requires { ⌜ (1 ≤ depth) × (depth ≤ 3) ⌝ }
 {

@@ -24,6 +24,7 @@ fn code(u: Usability) -> u32 {
     }
 }
 
+// What a point adds to a count.
 fn one_if_equal(a: u32, b: u32) -> usize
     ensures { λ r. ⌜ r ≤ 1 ⌝ }
 {
@@ -42,11 +43,13 @@ fn count_of(points: &[f32], reason: u32) -> usize {
     n
 }
 
+// A name and a count.
 fn number(name: &[u8], n: usize) {
     io::write_all(STDOUT_FILENO, name);
     io::print_decimal(STDOUT_FILENO, n as u64);
 }
 
+// The count that the hot loops use, then the four counts by reason: the first of them is the same number, asked another way.
 fn print_counts(points: &[f32]) {
     number(b"  usable ", points::usable_count(points));
     number(b", by reason ", count_of(points, 0));
@@ -58,17 +61,20 @@ fn print_counts(points: &[f32]) {
 
 // ---- floats
 
+// A blank and a pattern.
 fn float(x: f64) {
     io::write_all(STDOUT_FILENO, b" ");
     io::print_hex(STDOUT_FILENO, arith::pattern64(x), 16);
 }
 
+// A line with one number.
 fn single(name: &[u8], x: f64) {
     io::write_all(STDOUT_FILENO, name);
     float(x);
     io::write_all(STDOUT_FILENO, b"\n");
 }
 
+// A line with three.
 fn triple(name: &[u8], p: [f64; 3]) {
     io::write_all(STDOUT_FILENO, name);
     float(p[0]);
@@ -79,6 +85,7 @@ fn triple(name: &[u8], p: [f64; 3]) {
 
 // ---- a case
 
+// All that the functions say of the points.
 fn report(points: &[f32], list: &mut [f32])
     requires { ⌜ given (now points) ≤ length (now list) ⌝ }
 {
@@ -95,6 +102,7 @@ fn report(points: &[f32], list: &mut [f32])
     single(b"  spacing", points::spacing(points, list, extent));
 }
 
+// Makes a case's points and reports on the first `all` of them. 2304 points have room.
 fn run(name: &[u8], stand: Stand, all: usize, spoilt: usize)
     requires { ⌜ all ≤ 2304 ⌝ }
 {

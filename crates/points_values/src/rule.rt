@@ -13,9 +13,9 @@ pub enum Stand {
     Doubled,
     // The same, each normal as short as a usable one may be.
     Short,
-    // In a row along x, 1.8e19 apart: the square of that is an f32.
+    // In a row along x, 1.8e19 apart: the square of that is a finite f32.
     Wide,
-    // In a row along x, 2e19 apart: the square of that is not.
+    // In a row along x, 2e19 apart: the square of that is infinite.
     Apart,
     // -0 and subnormal coordinates.
     Minute,
@@ -33,6 +33,7 @@ pub struct Case {
 
 // ---- whole numbers
 
+// The next number.
 fn turn(s: u64) -> u64
     requires { ⌜ s < 2147483647 ⌝ }
     ensures { λ r. ⌜ r < 2147483647 ⌝ }
@@ -43,6 +44,7 @@ fn turn(s: u64) -> u64
     s * 48271 % 2147483647
 }
 
+// The number that a point starts from.
 fn start(stand: Stand, i: usize) -> u64
     requires { ⌜ i < 65536 ⌝ }
     ensures { λ r. ⌜ r < 2147483647 ⌝ }
@@ -61,6 +63,7 @@ fn seed(stand: Stand, i: usize) -> u64
     turn(turn(turn(turn(turn(start(stand, i))))))
 }
 
+// A small whole number as an f32, exactly.
 fn small(m: u64) -> f32
     requires { ⌜ m < 65536 ⌝ }
 {
@@ -85,10 +88,12 @@ fn coordinate(stand: Stand, i: usize, axis: usize, s: u64) -> f32
     }
 }
 
+// x along axis 0, else 0.
 fn along_x(x: f32, axis: usize) -> f32 {
     if axis == 0 { x } else { 0.0 }
 }
 
+// -0 where 3 divides the number, else the subnormal of that significand.
 fn minute(s: u64) -> f32 {
     if s % 3 == 0 {
         return -0.0;
@@ -96,6 +101,7 @@ fn minute(s: u64) -> f32 {
     arith::float32((s % 8388608) as u32)
 }
 
+// The largest f32, negative where the number is odd.
 fn largest(s: u64) -> f32 {
     if s % 2 == 0 {
         return arith::float32(0x7F7F_FFFF);
@@ -103,6 +109,7 @@ fn largest(s: u64) -> f32 {
     arith::float32(0xFF7F_FFFF)
 }
 
+// A normal that is never too short: its first component is 1 at least. Or the shortest that is usable.
 fn normal(stand: Stand, a: u64, b: u64, c: u64) -> [f32; 3] {
     match stand {
         Stand::Short => [0.0, arith::float32(0x2B8C_BCCC), 0.0],
@@ -110,6 +117,7 @@ fn normal(stand: Stand, a: u64, b: u64, c: u64) -> [f32; 3] {
     }
 }
 
+// Point i as it stands before any is spoilt.
 fn good(stand: Stand, i: usize) -> Point
     requires { ⌜ i < 65536 ⌝ }
 {
@@ -170,6 +178,7 @@ fn kind_of(stand: Stand, i: usize) -> usize {
     }
 }
 
+// The point spoilt in one way of the eight.
 fn spoil(p: Point, kind: usize) -> Point {
     let at = p.at;
     let normal = p.normal;
@@ -181,6 +190,7 @@ fn spoil(p: Point, kind: usize) -> Point {
 
 // ---- all points of a case
 
+// Point i of a case: spoilt if it is one of 3, 7, 11.. and its turn comes.
 fn made(case: Case, i: usize) -> Point
     requires { ⌜ i < 65536 ⌝ }
 {
