@@ -1,6 +1,10 @@
 //! The exported functions of the crate `arith_export`, with safe names, and numbers to try them on.
 //! Nothing checks these declarations against the Rattle source: the tests do, by calling every one of them.
 
+pub mod brute;
+pub mod clock;
+pub mod points;
+
 mod exported {
     extern "C" {
         pub fn hoardmagpie_root32(x: f32) -> f32;

@@ -4,9 +4,16 @@ use mathlib.Core.Path.{_≡_, refl}
 use mathlib.Core.Bool.{false}
 use Prim.Native.Nat.{_+_, _^_}
 use lib.IntN.{pos, negsuc}
+<<<<<<< HEAD
 use lib.Ieee.{inf, fin, binary32, binary64, ofBits, toUnsigned, mul, round}
 use Rattle.numbers.specs.Arithmetic.{rooted, narrowed, ceiled}
 use Rattle.field.specs.Field.{radiusOf}
+=======
+use lib.Ieee.{inf, fin, binary32, binary64, ofBits, ofInt, toUnsigned, neg, add, sub, div, lt, round}
+use Rattle.numbers.specs.Arithmetic.{rooted, narrowed, floored, stepped}
+use Rattle.closed.specs.Grid.{node, edge}
+use Rattle.grid.specs.Grid.{placed, alongOf}
+>>>>>>> values
 
 pub marked :
     (rooted binary32 (fin false 1 (pos 2)) ≡ fin false 1 (pos 1))  -- P1: the root of 4.0 is 2.0,
@@ -17,7 +24,16 @@ pub marked :
     × (narrowed (fin false 1 (pos 128)) ≡ inf false)  -- P5: 2^128 gives infinity
     × (narrowed (fin false 1 (negsuc 149)) ≡ fin false 0 (pos 0))  -- P6: 2^-150 gives 0
     × (narrowed (fin false 3 (negsuc 149)) ≡ fin false 1 (negsuc 147))  -- P7: 3·2^-150 gives 2^-148
+<<<<<<< HEAD
     × (radiusOf (fin false 1 (negsuc 0)) ≡ 2)  -- P8: sigma 0.5 has radius 2
     × (radiusOf (fin false 3 (pos 1)) ≡ 18)  -- P9: sigma 6.0 has radius 18
 unfolding rooted narrowed round ofBits radiusOf toUnsigned ceiled mul
 marked = (refl, refl, refl, refl, refl, refl, refl, refl, refl, refl)
+=======
+    × (node 8 8 1 2 3 ≡ 83)  -- P10: n = 8: node (1,2,3) is 83,
+    × (edge (node 8 8 1 2 3) 2 ≡ 251)  -- its axis-2 edge 251
+    × (placed 8 (fin false 0 (pos 0)) (fin false 1 (pos 0)) (fin false 7 (pos 0)) ≡ fin false 7 (pos 0))  -- P11: u = 7 with n = 8, of the place 7 at origin 0 and step 1,
+    × (alongOf 8 (fin false 0 (pos 0)) (fin false 1 (pos 0)) (fin false 7 (pos 0)) ≡ record { cell = 6; frac = fin false 1 (pos 0) })  -- gives cell 6, fraction 1
+unfolding rooted narrowed round ofBits ofInt toUnsigned neg add sub div lt floored stepped node edge placed alongOf
+marked = (refl, refl, refl, refl, refl, refl, refl, refl, refl, refl, refl, refl)
+>>>>>>> values

@@ -1,5 +1,8 @@
-// The marked cases of document 01 run through the functions: each line is a case and what the function answers, as a bit pattern.
+// The marked cases of document 01 run through the functions: each line is a case and what the function answers, as a bit pattern or a count.
 // specs/Marked.antt proves the same of the definitions.
+ghost use mathlib.Core.Path.{_≡_};
+use grid::Edge;
+use grid::Grid;
 use libc::STDOUT_FILENO;
 
 fn line(name: &[u8], pattern: u64, width: usize) {
@@ -8,8 +11,40 @@ fn line(name: &[u8], pattern: u64, width: usize) {
     io::write_all(STDOUT_FILENO, b"\n");
 }
 
+fn count(name: &[u8], n: usize) {
+    io::write_all(STDOUT_FILENO, name);
+    io::print_decimal(STDOUT_FILENO, n as u64);
+    io::write_all(STDOUT_FILENO, b"\n");
+}
+
 fn single(name: &[u8], x: f32) {
     line(name, arith::pattern32(x) as u64, 8);
+}
+
+// A grid of 8 nodes per side, on which a coordinate is its own u.
+fn eight() -> Grid
+    ensures { λ r. ⌜ r .nodes ≡ 8 ⌝ }
+{
+    Grid {
+        nodes: 8,
+        origin: [0.0, 0.0, 0.0],
+        step: 1.0,
+    }
+}
+
+fn p10() {
+    let node = eight().node([1, 2, 3]);
+    let edge = Edge::of(node, 2);
+    count(b"P10 ", node.place());
+    count(b"P10 ", edge.place());
+}
+
+fn p11() {
+    let cell = eight().cell([7.0, 7.0, 7.0]);
+    let base = cell.base;
+    let frac = cell.frac;
+    count(b"P11 ", base[0]);
+    line(b"P11 ", arith::pattern64(frac[0]), 16);
 }
 
 fn main() {
@@ -24,4 +59,6 @@ fn main() {
     );
     single(b"P6 ", arith::narrow(7.006492321624085e-46));
     single(b"P7 ", arith::narrow(2.1019476964872256e-45));
+    p10();
+    p11();
 }

@@ -3,35 +3,13 @@
 use native::*;
 use std::hint::black_box;
 
-#[repr(C)]
-struct TimeSpec {
-    seconds: i64,
-    nanoseconds: i64,
-}
-
-extern "C" {
-    fn clock_gettime(clock: i32, time: *mut TimeSpec) -> i32;
-}
-
-/// The processor time of this thread, in nanoseconds: a loaded machine does not show in it.
-fn thread_time() -> f64 {
-    const CLOCK_THREAD_CPUTIME_ID: i32 = 3;
-    let mut t = TimeSpec { seconds: 0, nanoseconds: 0 };
-    // The kernel fills in one record, which is ours.
-    unsafe { clock_gettime(CLOCK_THREAD_CPUTIME_ID, &mut t) };
-    t.seconds as f64 * 1e9 + t.nanoseconds as f64
-}
-
 fn best(inputs: &[f64], call: impl Fn(f64) -> f64) -> f64 {
-    (0..9)
-        .map(|_| {
-            let start = thread_time();
-            for &x in inputs {
-                black_box(call(black_box(x)));
-            }
-            (thread_time() - start) / inputs.len() as f64
-        })
-        .fold(f64::INFINITY, f64::min)
+    let all = clock::best(9, || {
+        for &x in inputs {
+            black_box(call(black_box(x)));
+        }
+    });
+    all / inputs.len() as f64
 }
 
 #[inline(never)]
