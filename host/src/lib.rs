@@ -141,8 +141,13 @@ fn refused(answer: &Answer) -> Refusal {
 /// # Errors
 /// The library's refusal, which depends on the points and the settings alone; never for want of room.
 pub fn reconstruct(points: &[Point], settings: &Settings) -> Result<Mesh, Refusal> {
+    reconstruct_from(Room::START, points, settings)
+}
+
+/// Calls the library with this room, and with more as long as that is what it lacks.
+fn reconstruct_from(start: Room, points: &[Point], settings: &Settings) -> Result<Mesh, Refusal> {
     let bound = Room::bound(settings.depth);
-    let mut room = Room::START.at_most(bound);
+    let mut room = start.at_most(bound);
     let mut memory = Memory::new(settings.depth, points.len());
     loop {
         let mut vertices = vec![[0.0; 3]; room.vertices];
@@ -197,6 +202,19 @@ mod tests {
             }
             assert_eq!(room, bound);
             assert!(calls <= if depth <= 6 { 1 } else { 5 }, "depth {depth}: {calls} calls");
+        }
+    }
+
+    #[test]
+    fn a_mesh_is_the_same_from_whatever_room_it_started() {
+        let corner = |i: i32| [i & 1, i >> 1 & 1, i >> 2 & 1, 0, 0, 0].map(|c| 2.0 * c as f32 - 1.0);
+        let outward = |p: [f32; 6]| [p[0], p[1], p[2], p[0], p[1], p[2]];
+        let points: Vec<Point> = (0..16).map(|i| outward(corner(i).map(|c| c * (1 + i / 8) as f32))).collect();
+        let settings = Settings { depth: 4, ..Settings::default() };
+        let wanted = reconstruct(&points, &settings);
+        assert!(wanted.is_ok());
+        for room in [Room { vertices: 1, faces: 1000 }, Room { vertices: 1000, faces: 1 }] {
+            assert_eq!(reconstruct_from(room, &points, &settings), wanted);
         }
     }
 

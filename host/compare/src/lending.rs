@@ -182,3 +182,37 @@ pub fn compare_default(points: Vec<f32>, r: &mut Random) -> Result<Outcome, Stri
     compare_mesh(&call, &want, r, |v, f, s| lent::reconstruct_default(&call.points, v, f, s))?;
     Ok(want)
 }
+
+#[cfg(test)]
+mod tests {
+    use super::*;
+
+    /// The comparison itself: it sees a wrong element, rubbish that stayed, and a touched fence.
+    #[test]
+    fn every_place_is_looked_at() {
+        let lent = || Fenced::<u32>::new(5, &mut Random(9));
+        assert!(lent().compare("rubbish", &[]).is_err());
+        for place in 0..5 + 2 * FENCE {
+            let mut slice = lent();
+            slice.lend().copy_from_slice(&[7, 8, 0, 0, 0]);
+            assert_eq!(slice.compare("whole", &[7, 8]), Ok(()));
+            slice.all[place] ^= 1 << 31;
+            assert!(slice.compare("touched", &[7, 8]).is_err(), "place {place}");
+        }
+    }
+
+    #[test]
+    fn every_entry_of_the_answer_is_looked_at() {
+        let good =
+            Answer { number: 0, counts: [1, 2, 3, 0, 0, 0, 0, 0], values: [0.5, 0.0, 0.0, 0.0, 0.0, 0.0, 0.0, 0.0] };
+        assert_eq!(compare_answer(&good, 0, &[1, 2, 3], &[0.5]), Ok(()));
+        assert!(compare_answer(&good, 4, &[1, 2, 3], &[0.5]).is_err());
+        for i in 0..8 {
+            let (mut a, mut b) = (good, good);
+            a.counts[i] += 1;
+            b.values[i] = f32::from_bits(b.values[i].to_bits() ^ 1 << 31);
+            assert!(compare_answer(&a, 0, &[1, 2, 3], &[0.5]).is_err());
+            assert!(compare_answer(&b, 0, &[1, 2, 3], &[0.5]).is_err());
+        }
+    }
+}
