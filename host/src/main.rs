@@ -138,8 +138,7 @@ fn card(job: &Job, given: usize, mesh: &Mesh, time: Duration) -> String {
     line("vertices", mesh.vertices.len().to_string());
     line("faces", mesh.faces.len().to_string());
     line("level", mesh.level.to_string());
-    line("low", corner(mesh.low));
-    line("high", corner(mesh.high));
+    line("box", format!("{} to {}", corner(mesh.low), corner(mesh.high)));
     line("time", format!("{:.2} s", time.as_secs_f64()));
     line("mesh", job.mesh.display().to_string());
     text

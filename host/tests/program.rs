@@ -77,7 +77,7 @@ fn closes_a_scan_and_prints_the_job_card() {
     assert_eq!(card_value(&card, "depth"), "4");
     assert_eq!(card_value(&card, "vertices"), lines_of(&folder.0.join("ball.obj"), "v ").to_string());
     assert_eq!(card_value(&card, "faces"), lines_of(&folder.0.join("ball.obj"), "f ").to_string());
-    for name in ["level", "low", "high", "time"] {
+    for name in ["level", "box", "time"] {
         assert!(!card_value(&card, name).is_empty());
     }
     assert_eq!(folder.names(), ["ball.obj", "ball.txt"]);

@@ -3,11 +3,12 @@
 //! compare fuzz SECONDS [SEED]      other calls for as long as this
 //! compare cases FOLDER             recorded cases
 //! compare ring COUNT               a scan of the ring with a third missing, as PLY on standard output
-use compare::calls::family;
+use compare::calls::{family, Call};
 use compare::lending::compare_default;
 use compare::random::Random;
 use compare::shapes;
 use compare::tally::{at_depth, recorded, Tally};
+use oracle::PoissonConfig;
 use std::io::Write;
 use std::path::Path;
 use std::process::ExitCode;
@@ -68,6 +69,25 @@ fn defaults() -> Result<(), String> {
     Ok(())
 }
 
+/// As many points as are allowed, and one more.
+fn limits() -> Tally {
+    let (mut r, mut tally) = (Random(8), Tally::default());
+    let some = shapes::placed(&shapes::ball(&mut r, 60, 0.0), 10.0, [0.0; 3]);
+    for count in [oracle::MOST_POINTS, oracle::MOST_POINTS + 1] {
+        let points = some.iter().copied().cycle().take(6 * count).collect();
+        tally.add(&Call::new(points, PoissonConfig { depth: 3, ..PoissonConfig::default() }), &mut r);
+    }
+    tally
+}
+
+/// The full form: the call without settings, the limits of the point slice, and the long list.
+fn full(threads: usize, start: Instant) -> Result<(), String> {
+    defaults()?;
+    let mut tally = limits();
+    tally.merge(&run(&FULL, threads));
+    report(&tally, true, start)
+}
+
 fn ring(count: usize) -> std::io::Result<()> {
     let points = shapes::placed(&shapes::ring(&mut Random(3), count, 0.35), 100.0, [0.0; 3]);
     let mut out = std::io::stdout().lock();
@@ -97,11 +117,8 @@ fn act(words: &[&str]) -> Result<(), String> {
     let number = |word: &str| word.parse::<u64>().map_err(|_| format!("`{word}` is no number"));
     match *words {
         ["short"] => defaults().and_then(|()| report(&run(&SHORT, 1), true, start)),
-        ["full"] => defaults().and_then(|()| report(&run(&FULL, 1), true, start)),
-        ["full", threads] => {
-            let threads = number(threads)? as usize;
-            defaults().and_then(|()| report(&run(&FULL, threads), true, start))
-        }
+        ["full"] => full(1, start),
+        ["full", threads] => full(number(threads)? as usize, start),
         ["fuzz", seconds] => report(&fuzz(Duration::from_secs(number(seconds)?), 1), false, start),
         ["fuzz", seconds, seed] => report(&fuzz(Duration::from_secs(number(seconds)?), number(seed)?), false, start),
         ["cases", folder] => report(&recorded(Path::new(folder))?, false, start),

@@ -33,10 +33,8 @@ fn process_time() -> f64 {
 
 fn ring(count: usize) -> PointCloud<NormalPoint3f> {
     let flat = shapes::placed(&shapes::ring(&mut Random(count as u64), count, 0.35), 100.0, [0.0; 3]);
-    let point = |p: &[f32]| NormalPoint3f {
-        position: Point3f::new(p[0], p[1], p[2]),
-        normal: Vector3f::new(p[3], p[4], p[5]),
-    };
+    let point =
+        |p: &[f32]| NormalPoint3f { position: Point3f::new(p[0], p[1], p[2]), normal: Vector3f::new(p[3], p[4], p[5]) };
     PointCloud { points: flat.chunks_exact(6).map(point).collect() }
 }
 
