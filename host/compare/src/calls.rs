@@ -108,29 +108,33 @@ fn damaged(r: &mut Random, base: &Call) -> Call {
     let mut points = base.points.clone();
     let mut config = base.config.clone();
     for _ in 0..1 + r.below(4) {
-        let at = r.below(points.len());
-        let other = r.below(points.len() / 6) * 6;
-        let this = at / 6 * 6;
         match r.below(8) {
-            0 => points[at] = r.pattern(),
-            1 => points[at] = f32::from_bits(points[at].to_bits() ^ 1 << r.below(32)),
-            2 => points[at] = r.pick(&[0.0, -0.0, f32::NAN, f32::INFINITY, f32::NEG_INFINITY, 1e-45, f32::MAX]),
-            3 => points.copy_within(other..other + 6, this),
-            4 => points.copy_within(other..other + 3, this),
-            5 => points.truncate(at.max(6)),
+            0..6 => damage(r, &mut points),
             6 => config.smoothing = r.pattern(),
             _ => config.iso_offset = r.pattern(),
         }
-        if points.len() < 6 {
-            break;
-        }
     }
-    if !r.once_in(8) {
-        points.truncate(points.len() / 6 * 6);
+    if r.once_in(8) {
+        points.truncate(r.below(points.len()));
     }
-    let tolerances = [config.tolerance, f64::from_bits(r.bits())];
-    config.tolerance = r.pick(&tolerances);
+    if r.once_in(2) {
+        config.tolerance = f64::from_bits(r.bits());
+    }
     Call::new(points, config)
+}
+
+/// Changes one number of a scan, or moves, copies or leaves out points.
+fn damage(r: &mut Random, points: &mut Vec<f32>) {
+    let at = r.below(points.len());
+    let (this, other) = (at / 6 * 6, r.below(points.len() / 6) * 6);
+    match r.below(6) {
+        0 => points[at] = r.pattern(),
+        1 => points[at] = f32::from_bits(points[at].to_bits() ^ 1 << r.below(32)),
+        2 => points[at] = r.pick(&[0.0, -0.0, f32::NAN, f32::INFINITY, f32::NEG_INFINITY, 1e-45, f32::MAX]),
+        3 => points.copy_within(other..other + 6, this),
+        4 => points.copy_within(other..other + 3, this),
+        _ => points.truncate(this.max(60)),
+    }
 }
 
 /// Each slice one element short, exact, and one longer.
@@ -231,8 +235,9 @@ fn faults(r: &mut Random, base: &Call) -> Vec<Call> {
         *c = Call { room: c.room, field: c.field, ..Call::new(points, c.config.clone()) };
     };
     let one_spot = |c: &mut Call| {
-        let first = [c.points[0], c.points[1], c.points[2]];
-        c.points.chunks_exact_mut(6).for_each(|p| p[..3].copy_from_slice(&first));
+        if let Some(&first) = c.points.first_chunk::<3>() {
+            c.points.chunks_exact_mut(6).for_each(|p| p[..3].copy_from_slice(&first));
+        }
     };
     let mut calls = Vec::new();
     for _ in 0..6 {
@@ -248,9 +253,6 @@ fn faults(r: &mut Random, base: &Call) -> Vec<Call> {
                     5 => c.room.grids[r.below(7)] = r.below(600),
                     6 => one_spot(c),
                     _ => (c.room.vertices, c.room.faces) = (r.below(900), r.below(1800)),
-                }
-                if c.points.is_empty() {
-                    break;
                 }
             }
         }));
