@@ -229,11 +229,6 @@ fn nearest(points: &[f32], face: &[[f32; 3]; 3]) -> f32 {
 
 /// One or more reasons for a refusal at once.
 fn faults(r: &mut Random, base: &Call) -> Vec<Call> {
-    let cut = |c: &mut Call, length: usize| {
-        let mut points = c.points.clone();
-        points.truncate(length);
-        *c = Call { room: c.room, field: c.field, ..Call::new(points, c.config.clone()) };
-    };
     let one_spot = |c: &mut Call| {
         if let Some(&first) = c.points.first_chunk::<3>() {
             c.points.chunks_exact_mut(6).for_each(|p| p[..3].copy_from_slice(&first));
@@ -245,9 +240,9 @@ fn faults(r: &mut Random, base: &Call) -> Vec<Call> {
             let (odd, few) = (r.below(c.points.len()), 6 * r.below(11));
             for _ in 0..1 + r.below(3) {
                 match r.below(8) {
-                    0 => cut(c, odd),
-                    1 => cut(c, 0),
-                    2 => cut(c, few),
+                    0 => c.points.truncate(odd),
+                    1 => c.points.clear(),
+                    2 => c.points.truncate(few),
                     3 => c.config.depth = r.pick(&[0, 1, 2, 9, 10, 31, 32, 64, u32::MAX]),
                     4 => c.config.smoothing = r.pick(&[0.0, -0.0, -1.0, f32::NAN, f32::NEG_INFINITY, -1e-45]),
                     5 => c.room.grids[r.below(7)] = r.below(600),
