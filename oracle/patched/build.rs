@@ -53,7 +53,7 @@ fn refuse_a_library_whose_sums_start_from_plus_zero() {
     let wide = std::iter::empty::<f64>().sum::<f64>();
     assert!(
         narrow.to_bits() == 1 << 31 && wide.to_bits() == 1 << 63,
-        "the oracle needs a Rust library whose empty sum is -0.0 (rustc 1.83 or later)"
+        "the oracle needs a Rust library whose empty sum is -0.0, as the current one's is"
     );
 }
 
