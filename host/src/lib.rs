@@ -26,6 +26,9 @@
 //! # Ok::<(), Refusal>(())
 //! ```
 //!
+//! To build it, run `scripts/native-archive capi` in the repository's root, which proves the library and leaves its archive, then
+//! `cargo build --offline --release` in `host`; `scripts/host-tests` tests it, and `scripts/close-example` closes a scan.
+//!
 //! [`scan`] reads scans from PLY and text, [`mesh_file`] writes meshes as PLY and OBJ, and the program `hoardmagpie` is made
 //! of the two.
 

@@ -1,8 +1,10 @@
-//! compare short                    some thousand calls, a minute or two
-//! compare full [THREADS]           at least 100,000 calls at depth 3 to 5, 500 at 6 and 7, 10 at 8
-//! compare fuzz SECONDS [SEED]      other calls for as long as this
-//! compare cases FOLDER             recorded cases
-//! compare ring COUNT               a scan of the ring with a third missing, as PLY on standard output
+//! ```text
+//! compare short                  some thousand calls, a minute or two
+//! compare full [THREADS]         at least 100,000 calls at depth 3 to 5, 500 at 6 and 7, 10 at 8
+//! compare fuzz SECONDS [SEED]    other calls for as long as this
+//! compare cases FOLDER           recorded cases
+//! compare ring COUNT             a scan of the ring with a third missing, as PLY on standard output
+//! ```
 use compare::calls::{family, Call};
 use compare::lending::compare_default;
 use compare::random::Random;

@@ -1,4 +1,4 @@
-//! threaded [REPEATS]      times of the published Rust with the real rayon, on one thread and on all, as a table
+//! Times of the published Rust with the real rayon, on one thread and on all, as a table. A number asks for the best of so many runs.
 //!
 //! The same scans as host/compare's `bench`. Processor time is that of all threads together; the best of the repeats counts.
 #[allow(dead_code)]

@@ -1,4 +1,4 @@
-//! bench [REPEATS]      the library's times beside the Rust's, as a table
+//! `bench`, or `bench 3` for the best of three runs: the library's times beside the Rust's, as a table.
 //!
 //! The scan is a ring of radius 100 and tube 35 with a third missing, settings are the defaults but for the depth. Both run on one
 //! thread. Processor time of the thread is the figure to trust on a machine that does other work; the best of the repeats counts.
