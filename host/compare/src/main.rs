@@ -39,7 +39,9 @@ fn run(list: &[(u32, u64)], threads: usize) -> Tally {
     let work = || loop {
         let part = left.lock().expect("no thread has failed").pop();
         let Some((depth, count, seed)) = part else { break };
+        let start = Instant::now();
         let tally = at_depth(depth, count, seed);
+        eprintln!("depth {depth}: {count} calls, {} differ, {:.0} s", tally.differ, start.elapsed().as_secs_f64());
         sum.lock().expect("no thread has failed").merge(&tally);
     };
     std::thread::scope(|s| (0..threads).for_each(|_| drop(s.spawn(work))));
