@@ -1,9 +1,10 @@
 //! Runs calls and counts what was answered.
 use crate::calls::{family, Call};
+use crate::laws::closed;
 use crate::lending::compare;
 use crate::random::Random;
 use oracle::cases::Case;
-use oracle::Outcome;
+use oracle::{Outcome, PoissonConfig};
 use std::path::Path;
 use std::{fmt, fs};
 
@@ -14,6 +15,9 @@ pub struct Tally {
     pub by_depth: [u64; 9],
     /// Calls by the number that was answered.
     pub by_number: [u64; 11],
+    /// Accepted without trimming, and found closed.
+    pub closed: u64,
+    /// Accepted with trimming that dropped a face.
     pub trimmed: u64,
     pub turned: u64,
     /// Accepted, or refused by 6, 9 or 10, with a field that is not finite.
@@ -26,9 +30,11 @@ impl Tally {
         self.by_number.iter().sum::<u64>() + self.differ
     }
 
-    fn count(&mut self, depth: u32, outcome: &Outcome) {
-        self.by_depth[if (3..=8).contains(&depth) { depth as usize } else { 0 }] += 1;
+    fn count(&mut self, config: &PoissonConfig, outcome: &Outcome) {
+        let depth = config.depth as usize;
+        self.by_depth[if (3..=8).contains(&depth) { depth } else { 0 }] += 1;
         self.by_number[outcome.number as usize] += 1;
+        self.closed += (outcome.number == 0 && config.trim_distance.is_none()) as u64;
         self.trimmed += (outcome.number == 0 && outcome.faces.len() != outcome.seen.untrimmed[1]) as u64;
         self.turned += (outcome.number == 0 && outcome.seen.turned) as u64;
         self.not_finite += outcome.seen.field.iter().any(|v| !v.is_finite()) as u64;
@@ -37,8 +43,16 @@ impl Tally {
     /// Compares one call; one that differs is told and kept as a case file in `target/differing`.
     pub fn add(&mut self, call: &Call, r: &mut Random) {
         let state = r.0;
-        match compare(call, r) {
-            Ok(outcome) => self.count(call.config.depth, &outcome),
+        let compared = compare(call, r).and_then(|outcome| {
+            let whole = outcome.number == 0 && call.config.trim_distance.is_none();
+            if whole {
+                closed(&outcome, call.config.depth).map(|()| outcome)
+            } else {
+                Ok(outcome)
+            }
+        });
+        match compared {
+            Ok(outcome) => self.count(&call.config, &outcome),
             Err(difference) => {
                 self.differ += 1;
                 eprintln!("{difference}\n  kept as {}", keep(call, state));
@@ -49,6 +63,7 @@ impl Tally {
     pub fn merge(&mut self, other: &Tally) {
         let pairs = self.by_depth.iter_mut().zip(other.by_depth);
         pairs.chain(self.by_number.iter_mut().zip(other.by_number)).for_each(|(a, b)| *a += b);
+        self.closed += other.closed;
         self.trimmed += other.trimmed;
         self.turned += other.turned;
         self.not_finite += other.not_finite;
@@ -77,7 +92,8 @@ impl fmt::Display for Tally {
         for (number, count) in self.by_number.iter().enumerate() {
             writeln!(f, "answer {number:<5}{count}")?;
         }
-        writeln!(f, "trimmed     {}\nturned      {}\nnot finite  {}", self.trimmed, self.turned, self.not_finite)?;
+        writeln!(f, "closed      {}\ntrimmed     {}", self.closed, self.trimmed)?;
+        writeln!(f, "turned      {}\nnot finite  {}", self.turned, self.not_finite)?;
         write!(f, "{} calls, {} differ", self.calls(), self.differ)
     }
 }
