@@ -1,0 +1,104 @@
+//! Writes a mesh: binary PLY, or OBJ.
+use crate::Mesh;
+use std::fs::{self, File, OpenOptions};
+use std::io::{self, BufWriter, Write};
+use std::path::{Path, PathBuf};
+
+/// The kinds of file that a mesh is written to.
+#[derive(Debug, Clone, Copy, PartialEq, Eq)]
+pub enum Format {
+    Ply,
+    Obj,
+}
+
+impl Format {
+    /// By the file's ending, in either case of letters.
+    pub fn of(path: &Path) -> Option<Format> {
+        match path.extension()?.to_str()?.to_ascii_lowercase().as_str() {
+            "ply" => Some(Format::Ply),
+            "obj" => Some(Format::Obj),
+            _ => None,
+        }
+    }
+}
+
+/// Writes the mesh as text or bytes of this format.
+pub fn write_to(mesh: &Mesh, format: Format, out: &mut dyn Write) -> io::Result<()> {
+    match format {
+        Format::Ply => write_ply(mesh, out),
+        Format::Obj => write_obj(mesh, out),
+    }
+}
+
+/// Binary, least significant byte first: every bit of a coordinate is kept.
+fn write_ply(mesh: &Mesh, out: &mut dyn Write) -> io::Result<()> {
+    writeln!(out, "ply\nformat binary_little_endian 1.0\ncomment closed by hoardmagpie")?;
+    writeln!(out, "element vertex {}", mesh.vertices.len())?;
+    writeln!(out, "property float x\nproperty float y\nproperty float z")?;
+    writeln!(out, "element face {}", mesh.faces.len())?;
+    writeln!(out, "property list uchar uint vertex_indices\nend_header")?;
+    for c in mesh.vertices.as_flattened() {
+        out.write_all(&c.to_le_bytes())?;
+    }
+    for face in &mesh.faces {
+        out.write_all(&[3])?;
+        for v in face {
+            out.write_all(&v.to_le_bytes())?;
+        }
+    }
+    Ok(())
+}
+
+/// Text: the shortest decimals that read back as the same number; vertices count from 1.
+fn write_obj(mesh: &Mesh, out: &mut dyn Write) -> io::Result<()> {
+    writeln!(out, "# closed by hoardmagpie")?;
+    for [x, y, z] in &mesh.vertices {
+        writeln!(out, "v {x} {y} {z}")?;
+    }
+    for face in &mesh.faces {
+        let [a, b, c] = face.map(|v| u64::from(v) + 1);
+        writeln!(out, "f {a} {b} {c}")?;
+    }
+    Ok(())
+}
+
+/// A file under another name beside the one that is wanted. It is removed unless it is kept.
+struct Unfinished {
+    path: PathBuf,
+    kept: bool,
+}
+
+impl Unfinished {
+    fn create(wanted: &Path) -> io::Result<(Unfinished, File)> {
+        let mut name = std::ffi::OsString::from(".");
+        name.push(wanted.file_name().ok_or(io::ErrorKind::InvalidInput)?);
+        name.push(format!(".{}.part", std::process::id()));
+        let path = wanted.with_file_name(name);
+        let file = OpenOptions::new().write(true).create_new(true).open(&path)?;
+        Ok((Unfinished { path, kept: false }, file))
+    }
+
+    fn keep_as(mut self, wanted: &Path) -> io::Result<()> {
+        fs::rename(&self.path, wanted)?;
+        self.kept = true;
+        Ok(())
+    }
+}
+
+impl Drop for Unfinished {
+    fn drop(&mut self) {
+        if !self.kept {
+            // There is nothing better to do where even this fails.
+            let _ = fs::remove_file(&self.path);
+        }
+    }
+}
+
+/// Writes the mesh to a file: whole under its name, or not at all.
+pub fn write(mesh: &Mesh, format: Format, path: &Path) -> io::Result<()> {
+    let (unfinished, file) = Unfinished::create(path)?;
+    let mut out = BufWriter::new(file);
+    write_to(mesh, format, &mut out)?;
+    out.into_inner()?.sync_all()?;
+    unfinished.keep_as(path)
+}

@@ -1,0 +1,90 @@
+//! The safe interface: meshes are closed, refusals carry their numbers, the defaults are document 01's.
+use hoardmagpie::{field, reconstruct, Point, Refusal, Settings, Trimming};
+use std::collections::HashMap;
+
+fn ball(count: usize) -> Vec<Point> {
+    // Even turns of the golden angle cover a ball evenly.
+    let at = |i: usize| {
+        let z = 1.0 - (2 * i + 1) as f64 / count as f64;
+        let (turn, r) = (i as f64 * 2.399_963_229_728_653, (1.0 - z * z).sqrt());
+        [r * turn.cos(), r * turn.sin(), z]
+    };
+    let point = |[x, y, z]: [f64; 3]| [5.0 * x, 5.0 * y, 5.0 * z, x, y, z].map(|c| c as f32);
+    (0..count).map(|i| point(at(i))).collect()
+}
+
+fn at_depth(depth: u32) -> Settings {
+    Settings { depth, ..Settings::default() }
+}
+
+#[test]
+fn the_defaults_are_those_of_document_01() {
+    let wanted = Settings {
+        depth: 7,
+        smoothing: 1.0,
+        iso_offset: 0.0,
+        trimming: Trimming::Off,
+        iterations: 1000,
+        tolerance: 1e-4,
+    };
+    assert_eq!(Settings::default(), wanted);
+}
+
+/// Demand 3, looked at from outside: three different vertices a face, and each directed edge as often as its reverse.
+#[test]
+fn the_mesh_is_closed() {
+    let mesh = reconstruct(&ball(300), &at_depth(5)).unwrap();
+    assert_eq!(mesh.usable, 300);
+    let mut balance = HashMap::new();
+    for [a, b, c] in mesh.faces {
+        assert!(a != b && b != c && c != a);
+        for (from, to) in [(a, b), (b, c), (c, a)] {
+            *balance.entry((from.min(to), from.max(to))).or_insert(0) += if from < to { 1 } else { -1 };
+        }
+    }
+    assert!(!balance.is_empty() && balance.values().all(|&n| n == 0));
+}
+
+#[test]
+fn the_box_holds_every_vertex() {
+    let mesh = reconstruct(&ball(200), &at_depth(4)).unwrap();
+    for a in 0..3 {
+        let along = |pick: fn(f32, f32) -> f32| mesh.vertices.iter().map(|v| v[a]).reduce(pick).unwrap();
+        assert_eq!((mesh.low[a], mesh.high[a]), (along(f32::min), along(f32::max)));
+    }
+}
+
+#[test]
+fn trimming_keeps_some_faces() {
+    let half: Vec<Point> = ball(400).into_iter().filter(|p| p[2] > 0.0).collect();
+    let whole = reconstruct(&half, &at_depth(4)).unwrap();
+    let trimmed = reconstruct(&half, &Settings { trimming: Trimming::Within(0.8), ..at_depth(4) }).unwrap();
+    assert!(trimmed.faces.len() < whole.faces.len());
+    assert!(trimmed.faces.as_flattened().iter().all(|&v| (v as usize) < trimmed.vertices.len()));
+}
+
+#[test]
+fn the_field_has_the_meshs_level() {
+    let (points, settings) = (ball(100), at_depth(4));
+    let (mesh, field) = (reconstruct(&points, &settings).unwrap(), field(&points, &settings).unwrap());
+    assert_eq!(field.values.len(), 4096);
+    assert_eq!((field.level, field.usable), (mesh.level, mesh.usable));
+}
+
+#[test]
+fn refusals_that_points_and_settings_can_have() {
+    let good = ball(40);
+    let refused = |points: &[Point], settings: &Settings| reconstruct(points, settings).map(|m| m.faces.len());
+    let d3 = at_depth(3);
+    assert_eq!(refused(&[], &d3), Err(Refusal::NoPoints));
+    for depth in [0, 2, 9, 21, 64, u32::MAX] {
+        assert_eq!(refused(&good, &at_depth(depth)), Err(Refusal::Depth));
+        assert_eq!(field(&good, &at_depth(depth)), Err(Refusal::Depth));
+    }
+    assert_eq!(refused(&good, &Settings { smoothing: -0.0, ..d3 }), Err(Refusal::Smoothing));
+    assert_eq!(refused(&good[..9], &d3), Err(Refusal::TooFewUsable));
+    assert_eq!(refused(&[good[0]; 12], &d3), Err(Refusal::OneSpot));
+    assert_eq!(refused(&good, &Settings { iso_offset: f32::NAN, ..d3 }), Err(Refusal::NoFace));
+    assert_eq!(refused(&vec![good[0]; 1_048_577], &d3), Err(Refusal::PointSlice));
+    assert_eq!(refused(&good[..9], &d3).unwrap_err().number(), 4);
+}

@@ -1,0 +1,152 @@
+//! The program as it is called: its job card, its files, its refusals and their status.
+use std::fs;
+use std::path::{Path, PathBuf};
+use std::process::{Command, Output};
+
+/// A folder of this test's own, which is removed when the test ends.
+struct Folder(PathBuf);
+
+impl Folder {
+    fn new(name: &str) -> Folder {
+        let path = std::env::temp_dir().join(format!("hoardmagpie-program-{}-{name}", std::process::id()));
+        fs::create_dir_all(&path).unwrap();
+        Folder(path)
+    }
+
+    fn names(&self) -> Vec<String> {
+        let mut names: Vec<String> =
+            fs::read_dir(&self.0).unwrap().map(|e| e.unwrap().file_name().into_string().unwrap()).collect();
+        names.sort();
+        names
+    }
+
+    fn run(&self, words: &[&str]) -> Output {
+        Command::new(env!("CARGO_BIN_EXE_hoardmagpie")).args(words).current_dir(&self.0).output().unwrap()
+    }
+
+    /// Runs the program, which must fail with this status, one line and no output; the line without the program's name.
+    fn fails(&self, status: i32, words: &[&str]) -> String {
+        let before = self.names();
+        let output = self.run(words);
+        assert_eq!(output.status.code(), Some(status), "{output:?}");
+        assert!(output.stdout.is_empty(), "{output:?}");
+        assert_eq!(self.names(), before, "something was left behind");
+        let line = String::from_utf8(output.stderr).unwrap();
+        assert_eq!(line.matches('\n').count(), 1, "{line}");
+        line.trim_end().strip_prefix("hoardmagpie: ").expect("the program's name").to_string()
+    }
+}
+
+impl Drop for Folder {
+    fn drop(&mut self) {
+        fs::remove_dir_all(&self.0).unwrap();
+    }
+}
+
+/// 26 points of a ball, and one that cannot be used.
+fn ball() -> String {
+    let mut text = String::from("nan 0 0 0 0 1\n");
+    for i in 0..27 {
+        let d = [i / 9 - 1, i / 3 % 3 - 1, i % 3 - 1].map(f64::from);
+        let length = (d[0] * d[0] + d[1] * d[1] + d[2] * d[2]).sqrt();
+        if length > 0.0 {
+            let n = d.map(|c| c / length);
+            text += &format!("{} {} {} {} {} {}\n", 10.0 * n[0], 10.0 * n[1], 10.0 * n[2], n[0], n[1], n[2]);
+        }
+    }
+    text
+}
+
+fn card_value(card: &str, name: &str) -> String {
+    let line = card.lines().find(|l| l.split_whitespace().next() == Some(name)).expect(name);
+    line[name.len()..].trim().to_string()
+}
+
+fn lines_of(path: &Path, start: &str) -> usize {
+    fs::read_to_string(path).unwrap().lines().filter(|l| l.starts_with(start)).count()
+}
+
+#[test]
+fn closes_a_scan_and_prints_the_job_card() {
+    let folder = Folder::new("closes");
+    fs::write(folder.0.join("ball.txt"), ball()).unwrap();
+    let output = folder.run(&["close", "ball.txt", "-o", "ball.obj", "--depth", "4"]);
+    assert!(output.status.success() && output.stderr.is_empty(), "{output:?}");
+    let card = String::from_utf8(output.stdout).unwrap();
+    assert_eq!(card_value(&card, "points"), "27 given, 26 used");
+    assert_eq!(card_value(&card, "depth"), "4");
+    assert_eq!(card_value(&card, "vertices"), lines_of(&folder.0.join("ball.obj"), "v ").to_string());
+    assert_eq!(card_value(&card, "faces"), lines_of(&folder.0.join("ball.obj"), "f ").to_string());
+    for name in ["level", "box", "time"] {
+        assert!(!card_value(&card, name).is_empty());
+    }
+    assert_eq!(folder.names(), ["ball.obj", "ball.txt"]);
+}
+
+#[test]
+fn every_setting_reaches_the_library() {
+    let folder = Folder::new("settings");
+    fs::write(folder.0.join("ball.txt"), ball()).unwrap();
+    let refused = |option: &str, value: &str, number: u32| {
+        let words = ["close", "ball.txt", "-o", "m.ply", "--depth", "3", option, value];
+        let line = folder.fails(1, &words);
+        assert!(line.starts_with(&format!("ball.txt: refused {number}: ")), "{line}");
+    };
+    refused("--depth", "9", 2);
+    refused("--smoothing", "-1", 3);
+    refused("--offset", "nan", 6);
+    refused("--trim", "nan", 6);
+    refused("--iterations", "0", 6);
+    refused("--tolerance", "inf", 6);
+}
+
+#[test]
+fn bad_scans_get_one_line() {
+    let folder = Folder::new("bad");
+    fs::write(folder.0.join("few.txt"), "0 0 0 0 0 1\n").unwrap();
+    fs::write(folder.0.join("cut.ply"), "ply\nformat ascii 1.0\n").unwrap();
+    fs::write(folder.0.join("empty.txt"), "").unwrap();
+    let close = |scan: &str| folder.fails(1, &["close", scan, "-o", "m.ply", "--depth", "3"]);
+    assert!(close("few.txt").starts_with("few.txt: refused 4: fewer than ten points can be used"));
+    assert_eq!(close("cut.ply"), "cut.ply: the file ends inside its header");
+    assert_eq!(close("empty.txt"), "empty.txt: refused 1: the scan holds no points");
+    assert!(close("none.ply").starts_with("none.ply: No such file"));
+}
+
+#[test]
+fn a_mesh_that_cannot_be_written_leaves_nothing() {
+    let folder = Folder::new("unwritten");
+    fs::write(folder.0.join("ball.txt"), ball()).unwrap();
+    fs::write(folder.0.join("scan.obj"), "x").unwrap();
+    fs::create_dir(folder.0.join("folder.ply")).unwrap();
+    let close = |scan: &str, mesh: &str| folder.fails(1, &["close", scan, "-o", mesh, "--depth", "3"]);
+    assert!(close("ball.txt", "folder.ply").starts_with("folder.ply: "));
+    assert!(close("ball.txt", "none/m.ply").starts_with("none/m.ply: "));
+    assert_eq!(close("scan.obj", "./scan.obj"), "scan.obj: the mesh would replace the scan");
+}
+
+#[test]
+fn wrong_words_get_one_line() {
+    let folder = Folder::new("words");
+    let usage = |words: &[&str], wanted: &str| {
+        assert_eq!(folder.fails(2, words), format!("{wanted}; hoardmagpie --help lists the options"));
+    };
+    usage(&[], "nothing to do");
+    usage(&["open"], "`open` is no command");
+    usage(&["close"], "no scan is named");
+    usage(&["close", "a.ply"], "no mesh is named: -o MESH");
+    usage(&["close", "a.ply", "-o"], "-o needs a value");
+    usage(&["close", "a.ply", "-o", "b.stl"], "b.stl ends in neither .ply nor .obj");
+    usage(&["close", "a.ply", "b.ply", "-o", "c.ply"], "one scan at a time, and `b.ply` is a second");
+    usage(&["close", "a.ply", "-o", "c.ply", "--depth", "seven"], "--depth cannot be `seven`");
+    usage(&["close", "a.ply", "-o", "c.ply", "--colour", "red"], "there is no option --colour");
+}
+
+#[test]
+fn help_shows_the_librarys_own_defaults() {
+    let output = Folder::new("help").run(&["--help"]);
+    let text = String::from_utf8(output.stdout).unwrap();
+    let d = hoardmagpie::Settings::default();
+    assert!(output.status.success());
+    assert!(text.contains(&format!("3 to 8 (default {})", d.depth)), "{text}");
+}

@@ -1,0 +1,60 @@
+//! oracle run < CASE       prints the answer to a library case
+//! oracle check FOLDER     answers every case of a folder anew and compares with the answer beside it
+//! oracle text             prints the patched text as it is compiled
+use oracle::cases::{show, Case};
+use std::error::Error;
+use std::io::Read;
+use std::path::Path;
+use std::{env, fs, process};
+
+fn run(bytes: &[u8], hashed: bool) -> Result<String, Box<dyn Error>> {
+    let case = Case::read(bytes).ok_or("this is no case")?;
+    Ok(show(&oracle::answer(&case.points(), &case.config, &case.room), hashed))
+}
+
+fn from_standard_input() -> Result<(), Box<dyn Error>> {
+    let mut bytes = Vec::new();
+    std::io::stdin().read_to_end(&mut bytes)?;
+    print!("{}", run(&bytes, false)?);
+    Ok(())
+}
+
+fn check(folder: &Path) -> Result<(), Box<dyn Error>> {
+    let (mut agree, mut differ) = (0, 0);
+    for entry in fs::read_dir(folder)? {
+        let path = entry?.path();
+        if path.extension().is_none_or(|e| e != "case") {
+            continue;
+        }
+        let wanted = fs::read_to_string(path.with_extension("out"))?;
+        if run(&fs::read(&path)?, wanted.contains("hash-vertices"))? == wanted {
+            agree += 1;
+        } else {
+            differ += 1;
+            println!("differs: {}", path.display());
+        }
+    }
+    println!("{agree} agree, {differ} differ");
+    if differ == 0 && agree > 0 {
+        Ok(())
+    } else {
+        Err("the oracle does not give the recorded answers".into())
+    }
+}
+
+fn main() {
+    let words: Vec<String> = env::args().skip(1).collect();
+    let done = match words.iter().map(String::as_str).collect::<Vec<_>>()[..] {
+        ["run"] => from_standard_input(),
+        ["check", folder] => check(Path::new(folder)),
+        ["text"] => {
+            print!("{}", oracle::PATCHED_TEXT);
+            Ok(())
+        }
+        _ => Err("usage: oracle run < CASE | oracle check FOLDER | oracle text".into()),
+    };
+    if let Err(error) = done {
+        eprintln!("oracle: {error}");
+        process::exit(1);
+    }
+}

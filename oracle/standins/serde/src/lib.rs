@@ -1,0 +1,2 @@
+//! Stand-in: the two derives, which produce nothing.
+pub use serde_derive::{Deserialize, Serialize};
