@@ -1,5 +1,5 @@
 -- The radius is at most 18, whatever the smoothing and the spacing: sigma is at most 6.0 or NaN, and 3·6.0 is the whole number 18, which the ceiling does not pass.
--- P8 and P9 of document 01 are its two ends. Assumes nothing.
+-- Assumes nothing.
 use mathlib.Core.Path.{_≡_, refl, subst}
 use mathlib.Core.Bool.{Bool, true, false, true≢false}
 use Prim.Native.Nat.{_*_, _/_, _≤_, _<_}
@@ -17,16 +17,6 @@ use Rattle.numbers.specs.Comparing.{holds}
 use Rattle.numbers.specs.Between.{clamped-in}
 use Rattle.numbers.specs.Floors.{ceiled-least}
 use Rattle.field.specs.Field.{half64, three64, six64, sigmaOf, radiusOf}
-
--- ---- the two ends of document 01's table
-
-pub p8 : radiusOf half64 ≡ 2
-unfolding radiusOf toUnsigned ceiled mul ofBits
-p8 = refl
-
-pub p9 : radiusOf six64 ≡ 18
-unfolding radiusOf toUnsigned ceiled mul ofBits
-p9 = refl
 
 -- ---- the numbers here
 

@@ -42,7 +42,7 @@ impl Kernel {
     }
 
     // ceiling(3·sigma), 0 for a NaN.
-    fn radius_of(sigma: f64) -> usize
+    pub fn radius_of(sigma: f64) -> usize
         ensures { λ r. ⌜ r ≡ radiusOf sigma ⌝ }
     {
         arith::to_whole(arith::ceiling(3.0 * sigma)) as usize

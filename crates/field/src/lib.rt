@@ -13,7 +13,7 @@ ghost use Rattle.grid.specs.Grid.{Sides};
 ghost use Rattle.points.specs.Points.{usables};
 ghost use Rattle.field.specs.Field.{offsetsOf, blurred, componentOf, rightSideBy, rightSide};
 use grid::Grid;
-use kernel::Kernel;
+pub use kernel::Kernel;
 
 // Axes 0, 1, 2: from s to out, back, and again. What is left in s is of no use.
 fn blur_all(g: Grid, kernel: &[f32], radius: usize, s: &mut [f32], out: &mut [f32])

@@ -2,18 +2,40 @@
 -- `fin s m (pos k)` is ±m * 2 ^ k and `fin s m (negsuc k)` is ±m * 2 ^ -(k + 1). Assumes nothing.
 use mathlib.Core.Path.{_≡_, refl}
 use mathlib.Core.Bool.{false}
+use mathlib.Core.List.{List, [], _∷_}
 use Prim.Native.Nat.{_+_, _^_}
 use lib.IntN.{pos, negsuc}
-<<<<<<< HEAD
-use lib.Ieee.{inf, fin, binary32, binary64, ofBits, toUnsigned, mul, round}
-use Rattle.numbers.specs.Arithmetic.{rooted, narrowed, ceiled}
-use Rattle.field.specs.Field.{radiusOf}
-=======
-use lib.Ieee.{inf, fin, binary32, binary64, ofBits, ofInt, toUnsigned, neg, add, sub, div, lt, round}
-use Rattle.numbers.specs.Arithmetic.{rooted, narrowed, floored, stepped}
-use Rattle.closed.specs.Grid.{node, edge}
+use lib.Ieee.{Float, inf, fin, binary32, binary64, ofBits, ofInt, toUnsigned, neg, add, sub, mul, div, lt, round}
+use Rattle.numbers.specs.Arithmetic.{rooted, narrowed, floored, ceiled, stepped}
+use Rattle.closed.specs.Lists.{member, cells, cells3}
+use Rattle.closed.specs.Faces.{face}
+use Rattle.closed.specs.Numbering.{note, grow, dedup, indexOf, used, mesh}
+use Rattle.closed.specs.Rows.{rows, row, triangles, emitted}
+use Rattle.closed.specs.Grid.{node, edge, cellFaces, gridFaces}
 use Rattle.grid.specs.Grid.{placed, alongOf}
->>>>>>> values
+use Rattle.grid.specs.declared.Lattice.{Lattice}
+use Rattle.field.specs.Field.{radiusOf}
+use Rattle.extract.specs.Extraction.{isBelow, belowAt, edgeFaces, vertexEdges, extractedFaces, extractedVertices, pointsOf, edgePoint, lowerValue, upperValue}
+
+-- ---- the numbers that the cases name
+
+abbrev nought : Float
+nought = fin false 0 (pos 0)
+
+abbrev half : Float
+half = fin false 1 (negsuc 0)
+
+abbrev one : Float
+one = fin false 1 (pos 0)
+
+-- P12's nodes: 2×2×2, step 1, origin 0; value -1 at (0,0,0) and 1 elsewhere
+abbrev corner : Lattice
+corner = record { counts = 2 ∷ 2 ∷ 2 ∷ []; origin = nought ∷ nought ∷ nought ∷ []; step = one ∷ one ∷ one ∷ [] }
+
+abbrev values : List Float
+values = neg one ∷ one ∷ one ∷ one ∷ one ∷ one ∷ one ∷ one ∷ []
+
+-- ---- the table
 
 pub marked :
     (rooted binary32 (fin false 1 (pos 2)) ≡ fin false 1 (pos 1))  -- P1: the root of 4.0 is 2.0,
@@ -24,16 +46,13 @@ pub marked :
     × (narrowed (fin false 1 (pos 128)) ≡ inf false)  -- P5: 2^128 gives infinity
     × (narrowed (fin false 1 (negsuc 149)) ≡ fin false 0 (pos 0))  -- P6: 2^-150 gives 0
     × (narrowed (fin false 3 (negsuc 149)) ≡ fin false 1 (negsuc 147))  -- P7: 3·2^-150 gives 2^-148
-<<<<<<< HEAD
-    × (radiusOf (fin false 1 (negsuc 0)) ≡ 2)  -- P8: sigma 0.5 has radius 2
+    × (radiusOf half ≡ 2)  -- P8: sigma 0.5 has radius 2
     × (radiusOf (fin false 3 (pos 1)) ≡ 18)  -- P9: sigma 6.0 has radius 18
-unfolding rooted narrowed round ofBits radiusOf toUnsigned ceiled mul
-marked = (refl, refl, refl, refl, refl, refl, refl, refl, refl, refl)
-=======
     × (node 8 8 1 2 3 ≡ 83)  -- P10: n = 8: node (1,2,3) is 83,
     × (edge (node 8 8 1 2 3) 2 ≡ 251)  -- its axis-2 edge 251
-    × (placed 8 (fin false 0 (pos 0)) (fin false 1 (pos 0)) (fin false 7 (pos 0)) ≡ fin false 7 (pos 0))  -- P11: u = 7 with n = 8, of the place 7 at origin 0 and step 1,
-    × (alongOf 8 (fin false 0 (pos 0)) (fin false 1 (pos 0)) (fin false 7 (pos 0)) ≡ record { cell = 6; frac = fin false 1 (pos 0) })  -- gives cell 6, fraction 1
-unfolding rooted narrowed round ofBits ofInt toUnsigned neg add sub div lt floored stepped node edge placed alongOf
-marked = (refl, refl, refl, refl, refl, refl, refl, refl, refl, refl, refl, refl)
->>>>>>> values
+    × (placed 8 nought one (fin false 7 (pos 0)) ≡ fin false 7 (pos 0))  -- P11: u = 7 with n = 8, of the place 7 at origin 0 and step 1,
+    × (alongOf 8 nought one (fin false 7 (pos 0)) ≡ record { cell = 6; frac = one })  -- gives cell 6, fraction 1
+    × (extractedVertices values corner nought ≡ half ∷ nought ∷ nought ∷ nought ∷ half ∷ nought ∷ nought ∷ nought ∷ half ∷ [])  -- P12: vertices (0.5,0,0), (0,0.5,0), (0,0,0.5),
+    × (extractedFaces values corner nought ≡ face 0 1 2 ∷ [])  -- face 0 1 2
+unfolding rooted narrowed round ofBits ofInt toUnsigned neg add sub mul div lt floored ceiled stepped radiusOf node edge placed alongOf extractedFaces extractedVertices vertexEdges pointsOf edgePoint lowerValue upperValue edgeFaces gridFaces cells3 cells cellFaces belowAt isBelow emitted triangles row rows mesh used dedup grow note member indexOf
+marked = (refl, refl, refl, refl, refl, refl, refl, refl, refl, refl, refl, refl, refl, refl, refl, refl)

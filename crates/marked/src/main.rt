@@ -1,6 +1,7 @@
 // The marked cases of document 01 run through the functions: each line is a case and what the function answers, as a bit pattern or a count.
 // specs/Marked.antt proves the same of the definitions.
 ghost use mathlib.Core.Path.{_≡_};
+use field::Kernel;
 use grid::Edge;
 use grid::Grid;
 use libc::STDOUT_FILENO;
@@ -59,6 +60,8 @@ fn main() {
     );
     single(b"P6 ", arith::narrow(7.006492321624085e-46));
     single(b"P7 ", arith::narrow(2.1019476964872256e-45));
+    count(b"P8 ", Kernel::radius_of(0.5));
+    count(b"P9 ", Kernel::radius_of(6.0));
     p10();
     p11();
 }

@@ -33,4 +33,3 @@ pub mod RoundOverflow
 pub mod NarrowNearest
 pub mod SumOfSquares
 pub mod RootSquares
-pub mod NarrowPoints
