@@ -8,7 +8,7 @@ use lib.Ieee.{Float}
 use Rattle.grid.specs.declared.Cell.{Cell}
 use Rattle.grid.specs.declared.Grid.{Grid}
 use Rattle.grid.specs.Grid.{Sides, Inside, Position, alongOf, cellAt, offsetsOf, cornerAt}
-use Rattle.closed.specs.Crossings.{node-lt}
+use Rattle.grid.specs.Numbering.{node-below}
 
 pub along-below : {n : ℕ} (o h p : Float) → Sides n → alongOf n o h p .cell + 1 < n
 unfolding alongOf
@@ -27,4 +27,4 @@ corner-in {n} {q} c h e = rw e (record { i = omega arith; j = omega arith; k = o
 
 pub corner-below : {n : ℕ} {q : Cell} (c : ℕ) → Inside n q → cornerAt n q c < n * n * n
 unfolding cornerAt
-corner-below c h = let at = corner-in c h refl in node-lt _ _ _ _ _ _ (at .i) (at .j) (at .k)
+corner-below c h = node-below (corner-in c h refl)

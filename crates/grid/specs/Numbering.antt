@@ -1,17 +1,20 @@
 -- Numbers and positions undo each other and stay in range. A node's number has its position as digits, to the bases ny and nz, and an edge's number has its axis as
--- the last digit to base 3. That a node's number is below nx * ny * nz (`node-lt`), and that nodes and edges are one to one with their numbers (`node-unique`,
--- `edge-unique`), stands in Crossings of the crate `closed`. Assumes nothing.
+-- the last digit to base 3. So they are one to one: said without the undoing, that is `node-unique` and `edge-unique` in Crossings of the crate `closed`. Assumes nothing.
 use mathlib.Core.Path.{_≡_, ap, _∙_}
-use mathlib.Core.List.{[], _∷_}
+use mathlib.Core.List.{List, [], _∷_}
 use Prim.Native.Nat.{ℕ, _+_, _*_, _/_, _%_, _<_}
 use native.Mathlib.Nat.{add-assoc, add-mul, one-mul, div-add-mod'}
 use native.Mathlib.Omega.{arith}
 use lib.Arith.{digits-div, digits-mod}
 use Rattle.closed.specs.Grid.{node, edge}
+use Rattle.closed.specs.Crossings.{node-lt}
 use Rattle.grid.specs.Grid.{Position, nodeAt, coordsOf, nodeOf, axisOf}
 use Rattle.grid.specs.Rows.{row-of}
 
 -- ---- nodes
+
+pub node-below : {nx ny nz : ℕ} {at : List ℕ} → Position nx ny nz at → nodeAt ny nz at < nx * ny * nz
+node-below h = node-lt _ _ _ _ _ _ (h .i) (h .j) (h .k)
 
 pub coords-of-node : {ny nz : ℕ} (i : ℕ) {j k : ℕ} → j < ny → k < nz → coordsOf ny nz (node ny nz i j k) ≡ i ∷ j ∷ k ∷ []
 unfolding node

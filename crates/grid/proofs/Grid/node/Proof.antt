@@ -1,14 +1,14 @@
 -- `grid::Grid::node` meets its contract: the node lies in the cube, which has at most 256^3. Assumes nothing.
 use native.Mathlib.Nat.{lt-of-lt-of-le}
 use native.Mathlib.Omega.{arith}
-use Rattle.closed.specs.Crossings.{node-lt}
+use Rattle.grid.specs.Numbering.{node-below}
 use Rattle.grid.specs.Rows.{cube-most}
 use borrow.Author.Needs.{needs}
 use Rattle.grid.proofs.Grid.node.Statement.{statement}
 use Rattle.grid.proofs.Grid.node.Tie as tie
 
 node-at-requires : tie.Need-node-at-requires
-node-at-requires c κs = let at = c .pre .1 in (omega (arith, c .pre .0), lt-of-lt-of-le (node-lt _ _ _ _ _ _ (at .i) (at .j) (at .k)) (cube-most (c .pre .0 .most)))
+node-at-requires c κs = (omega (arith, c .pre .0), lt-of-lt-of-le (node-below (c .pre .1)) (cube-most (c .pre .0 .most)))
 
 returns : tie.Need-returns
 returns c = search needs
