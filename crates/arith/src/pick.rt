@@ -12,20 +12,20 @@ pub fn clamp64(x: f64, lo: f64, hi: f64) -> f64
     if hi < x {
         return hi;
     }
-    x
+    numbers::canonical64(x)
 }
 
 // The same at f32.
-pub fn clamp32(x: f32, lo: f32, hi: f32) -> f32
-    ensures { λ r. ⌜ r ≡ clamped x lo hi ⌝ }
+pub fn clamp32(v: f32, lo: f32, hi: f32) -> f32
+    ensures { λ r. ⌜ r ≡ clamped v lo hi ⌝ }
 {
-    if x < lo {
+    if v < lo {
         return lo;
     }
-    if hi < x {
+    if hi < v {
         return hi;
     }
-    x
+    numbers::canonical32(v)
 }
 
 // 1 with the sign of x: +0 gives 1, -0 gives -1, NaN gives NaN. No comparison tells +0 from -0, so the sign is read off the pattern.
@@ -33,7 +33,7 @@ pub fn sign(x: f64) -> f64
     ensures { λ r. ⌜ r ≡ signed x ⌝ }
 {
     if x != x {
-        return x;
+        return 0.0 / 0.0;
     }
     if f64::to_bits(x) >> 63 == 0 {
         return 1.0;
@@ -46,7 +46,7 @@ pub fn least(x: f64, y: f64) -> f64
     ensures { λ r. ⌜ r ≡ least x y ⌝ }
 {
     if x != x {
-        return y;
+        return numbers::canonical64(y);
     }
     if y < x {
         return y;
@@ -59,7 +59,7 @@ pub fn largest(x: f64, y: f64) -> f64
     ensures { λ r. ⌜ r ≡ largest x y ⌝ }
 {
     if x != x {
-        return y;
+        return numbers::canonical64(y);
     }
     if x < y {
         return y;

@@ -16,7 +16,7 @@ pub fn floor(x: f64) -> f64
     if x < 0.0 {
         return -above(-x);
     }
-    x
+    numbers::canonical64(x)
 }
 
 // The least whole number that is not below x. NaN, an infinity and -0 stay, and -0.5 gives -0.
@@ -29,7 +29,7 @@ pub fn ceiling(x: f64) -> f64
     if x < 0.0 {
         return -below(-x);
     }
-    x
+    numbers::canonical64(x)
 }
 
 // The floor of a y above 0. From 2^52 on every f64 is whole; below, the whole part is a float exactly.

@@ -15,10 +15,7 @@ use lib.Ieee.Fits.{down-pos}
 pub holds : {b : Bool} → b ≡ true → T b
 holds h = subst T (sym h) tt
 
-pub fails : {b : Bool} → b ≡ false → T (not b)
-fails h = subst (λ (a : Bool). T (not a)) (sym h) tt
-
-pub ltb-same : (a : ℕ) → ltb a a ≡ false
+ltb-same : (a : ℕ) → ltb a a ≡ false
 ltb-same a = le-ltb a a (omega arith)
 
 pub eqb-sym : (a b : ℕ) → eqb a b ≡ eqb b a

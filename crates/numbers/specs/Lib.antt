@@ -2,15 +2,16 @@
 pub mod Arithmetic
 pub mod NanTest
 pub mod Opposite
+pub mod Whole
 pub mod Comparing
 pub mod Symmetry
 pub mod Signs
 pub mod Casts
 pub mod Series
 pub mod Steps
-pub mod Whole
 pub mod Between
 pub mod Floors
+pub mod StepPoints
 pub mod Commuting
 pub mod OppositeKept
 pub mod Binary
@@ -27,7 +28,8 @@ pub mod RootPoints
 pub mod NarrowKeeps
 pub mod ClosestAdd
 pub mod NarrowPattern
-pub mod NarrowPoints
 pub mod RoundNearest
 pub mod RoundOverflow
 pub mod NarrowNearest
+pub mod SumOfSquares
+pub mod RootSquares

@@ -2,21 +2,21 @@
 -- First: `add`, `sub`, `mul`, `div`, `narrowed`, `rooted`, the comparisons and the picks do not tell the zeros apart (but for a divisor). Then the laws of
 -- `Symmetry` give the same for opposite operands. A sum of products, a quotient and a narrowing of opposite values are opposite by one law each. Assumes nothing.
 use mathlib.Core.Path.{_≡_, refl, sym, ap, _∙_, subst}
-use mathlib.Core.Bool.{Bool, true, false, not, _&&_, _||_, Bool·beq, cond}
+use mathlib.Core.Bool.{Bool, true, false, not, _&&_, _||_, Bool·beq, cond, true≢false}
 use mathlib.Core.Logic.{inl, inr}
 use Prim.Native.Nat.{ℕ, zero, suc, _+_, _-_, _*_, _<_}
 use native.Mathlib.Nat.{mul-pos, mul-assoc, zero-mul}
 use native.Mathlib.Omega.{arith}
 use borrow.Author.Tests.{ltb-true, ltb-false, lt-ltb, le-ltb, eq-eqb, ne-eqb}
-use lib.Dec.{T, ltb, eqb→eq}
-use lib.IntN.{ℤ}
-use lib.Ieee.{Float, nan, inf, fin, Format, binary32, up, down, round, neg, sum, add, sub, mul, div, below, lt, eq, isNan}
+use lib.Dec.{T, ltb, eqb, eqb→eq}
+use lib.IntN.{ℤ, pos}
+use lib.Ieee.{Float, nan, inf, fin, Format, binary32, up, down, round, neg, sum, add, sub, mul, div, below, level, lt, eq, le, isNan}
 use lib.Ieee.Fits.{up-pos, down-pos}
 use lib.Ieee.Scale.{round-same}
 use Rattle.numbers.specs.Arithmetic.{narrowed, rooted, clamped, least, largest}
 use Rattle.numbers.specs.Opposite.{isZero, Alike, Opposite, NegatedOrZero}
-use Rattle.numbers.specs.Comparing.{same-test, lt-flips}
-use Rattle.numbers.specs.Symmetry.{round-zero, neg-neg, isNan-neg, add-neg, sub-neg, mul-neg-left, mul-neg-right, div-neg-left, narrowed-neg, lt-neg, least-neg, largest-neg}
+use Rattle.numbers.specs.Comparing.{holds, same-test, eq-sym, lt-itself, lt-flips}
+use Rattle.numbers.specs.Symmetry.{round-zero, neg-neg, isNan-neg, add-neg, sub-neg, mul-neg-left, mul-neg-right, mul-neg-both, div-neg-left, narrowed-neg, lt-neg, eq-neg, le-neg, least-neg, largest-neg}
 use Rattle.numbers.specs.Commuting.{add-swap, mul-swap}
 
 -- ---- alike: an equivalence
@@ -33,7 +33,7 @@ alike-trans x y z (inl h) k = subst (λ (v : Float). Alike v z) (sym h) k
 alike-trans x y z (inr p) (inl k) = inr (p .0, subst (λ (v : Float). T (isZero v)) k (p .1))
 alike-trans x y z (inr p) (inr q) = inr (p .0, q .1)
 
-pub neg-zero : (x : Float) → T (isZero x) → T (isZero (neg x))
+neg-zero : (x : Float) → T (isZero x) → T (isZero (neg x))
 unfolding neg
 neg-zero nan h = h
 neg-zero (inf s) h = h
@@ -204,6 +204,50 @@ alike-lt x x' y y' a b =
     ∙ told (λ (v : Float). lt v (neg x')) (lt-zeros (neg x')) (neg y) (neg y') (alike-neg y y' b)
     ∙ lt-neg y' x'
 
+-- a zero equals ±n / d where n is 0
+zero-level : (s : Bool) (a : ℕ) (t : Bool) (n u c : ℕ) → a ≡ 0 → 0 < u → 0 < c → level s a t (n * u * c) ≡ eqb n 0
+zero-level s a t n u c h U C = rw h (go s t)
+  where
+    none : (n : ℕ) → eqb 0 (n * u * c) && true ≡ eqb n 0
+    none zero = rw (nothing (0 * u) c (zero-mul u))
+    none (suc n) = let p : 0 < suc n * u * c = mul-pos (mul-pos (omega arith) U) C in rw (ne-eqb 0 (suc n * u * c) (λ z. omega arith)) (sym (ne-eqb (suc n) 0 (λ z. omega arith)))
+
+    go : (s t : Bool) → level s 0 t (n * u * c) ≡ eqb n 0
+    go false false = none n
+    go false true = none n
+    go true false = none n
+    go true true = none n
+
+eq-zeros : (y : Float) (s : Bool) (m : ℕ) (e : ℤ) (t : Bool) (n : ℕ) (d : ℤ) → m ≡ 0 → n ≡ 0 → eq (fin s m e) y ≡ eq (fin t n d) y
+unfolding eq
+eq-zeros nan s m e t n d h k = refl
+eq-zeros (inf u) s m e t n d h k = refl
+eq-zeros (fin u j g) s m e t n d h k =
+    zero-level s (m * up e * down g) u j (up g) (down e) (nothing (m * up e) (down g) (no-size m e h)) (up-pos g) (down-pos e)
+    ∙ sym (zero-level t (n * up d * down g) u j (up g) (down d) (nothing (n * up d) (down g) (no-size n d k)) (up-pos g) (down-pos d))
+
+pub alike-eq : (x x' y y' : Float) → Alike x x' → Alike y y' → eq x y ≡ eq x' y'
+alike-eq x x' y y' a b =
+    told (λ (v : Float). eq v y) (eq-zeros y) x x' a
+    ∙ eq-sym x' y
+    ∙ told (λ (v : Float). eq v x') (eq-zeros x') y y' b
+    ∙ eq-sym y' x'
+
+pub alike-le : (x x' y y' : Float) → Alike x x' → Alike y y' → le x y ≡ le x' y'
+unfolding le
+alike-le x x' y y' a b = rw (alike-lt x x' y y' a b, alike-eq x x' y y' a b)
+
+-- what is above zero is no zero: so it may divide
+pub above-not-zero : (x : Float) → lt (fin false 0 (pos 0)) x ≡ true → isZero x ≡ false
+above-not-zero x h = go (isZero x) refl
+  where
+    nought : Float
+    nought = fin false 0 (pos 0)
+
+    go : (b : Bool) → isZero x ≡ b → b ≡ false
+    go false z = refl
+    go true z = absurd (true≢false (sym h ∙ alike-lt nought nought x nought (inl refl) (inr (holds z, tt)) ∙ lt-itself nought))
+
 alike-cond : (p q : Bool) (x x' y y' : Float) → p ≡ q → Alike x x' → Alike y y' → Alike (cond p x y) (cond q x' y')
 alike-cond true q x x' y y' h a b = rw (← h) a
 alike-cond false q x x' y y' h a b = rw (← h) b
@@ -254,7 +298,7 @@ opposite-mul-right f w w' x x' b a = rw (← mul-neg-right f w x) (alike-mul f w
 -- a product of two opposites, as in a square, is alike
 pub product-alike : (f : Format) (x x' y y' : Float) → Opposite x x' → Opposite y y' → Alike (mul f x y) (mul f x' y')
 product-alike f x x' y y' a b =
-    subst (λ (v : Float). Alike v (mul f x' y')) (mul-neg-left f x (neg y) ∙ ap neg (mul-neg-right f x y) ∙ neg-neg (mul f x y)) (alike-mul f (neg x) x' (neg y) y' a b)
+    subst (λ (v : Float). Alike v (mul f x' y')) (mul-neg-both f x y) (alike-mul f (neg x) x' (neg y) y' a b)
 
 -- by the same divisor, a zero too; by one that is alike, where it is no zero
 pub opposite-div : (f : Format) (x x' w : Float) → Opposite x x' → Opposite (div f x w) (div f x' w)
@@ -274,6 +318,12 @@ opposite-lt x x' y y' a b = sym (alike-lt (neg x) x' (neg y) y' a b) ∙ lt-neg 
 -- a value against a level, neither a NaN, and not equal: what was below is not below
 pub opposite-lt-flips : (x x' y y' : Float) → Opposite x x' → Opposite y y' → isNan x ≡ false → isNan y ≡ false → eq x y ≡ false → lt x' y' ≡ not (lt x y)
 opposite-lt-flips x x' y y' a b h k d = opposite-lt x x' y y' a b ∙ lt-flips x y h k d
+
+pub opposite-eq : (x x' y y' : Float) → Opposite x x' → Opposite y y' → eq x' y' ≡ eq x y
+opposite-eq x x' y y' a b = sym (alike-eq (neg x) x' (neg y) y' a b) ∙ eq-neg x y
+
+pub opposite-le : (x x' y y' : Float) → Opposite x x' → Opposite y y' → le x' y' ≡ le y x
+opposite-le x x' y y' a b = sym (alike-le (neg x) x' (neg y) y' a b) ∙ le-neg x y
 
 pub opposite-least : (x x' y y' : Float) → Opposite x x' → Opposite y y' → Opposite (least x y) (largest x' y')
 opposite-least x x' y y' a b = rw (← largest-neg x y) (alike-largest (neg x) x' (neg y) y' a b)

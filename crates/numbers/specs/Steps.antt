@@ -1,21 +1,20 @@
 -- How floor and ceiling are computed, for an f64 above 0: from 2 ^ 52 on every value is whole, and below that the whole part q, and q + 1, are floats exactly,
 -- so the value is whole just where q as a float equals it. Of fin s m e the magnitude is m * up e / down e, and it is whole where the remainder is 0. Assumes nothing.
 use mathlib.Core.Path.{_≡_, refl, sym, ap, _∙_, subst}
-use mathlib.Core.Bool.{Bool, true, false, _&&_, _||_, Bool·beq, cond, true≢false, false≢true}
+use mathlib.Core.Bool.{Bool, true, false, _&&_, cond, true≢false, false≢true}
 use Prim.Native.Nat.{ℕ, zero, suc, _+_, _-_, _*_, _/_, _%_, _^_, _≤_, _<_, min}
-use native.Mathlib.Nat.{mul-one, mul-right-comm, eq-of-mul-eq-mul-right, add-zero, div-add-mod', mod-eq-of-lt, div-lt-iff-lt-mul}
+use native.Mathlib.Nat.{mul-one, add-zero, div-add-mod', mod-eq-of-lt, div-lt-iff-lt-mul}
 use native.Mathlib.Omega.{arith}
-use borrow.Author.Tests.{ltb-true, ltb-false, eq-eqb, ne-eqb}
+use borrow.Author.Tests.{ltb-true, ltb-false, eqb-true, eqb-false, lt-ltb, eq-eqb, ne-eqb}
 use lib.IntN.{ℤ, pos, negsuc}
-use lib.Dec.{T, leb, ltb, eqb, ltb→lt, lt→ltb, le→leb, eqb→eq}
+use lib.Dec.{T, leb, ltb, eqb, ltb→lt, lt→ltb, le→leb}
 use lib.Pow.{pow-pos, pow-mono}
 use lib.Ieee.{Float, nan, inf, fin, binary64, up, down, round, neg, lt, eq, fits, ofBits, toUnsigned, ofInt, inFloat}
-use lib.Ieee.Fits.{down-pos, and-i, and-l, and-r, eq→eqb}
-use lib.Ieee.Bits.{is-true}
+use lib.Ieee.Fits.{down-pos, and-l, and-r}
 use lib.Ieee.Exact.{HasValue}
 use lib.Ieee.Back.{round-whole}
 use Rattle.numbers.specs.Arithmetic.{stepped, floored, ceiled}
-use Rattle.numbers.specs.Comparing.{holds}
+use Rattle.numbers.specs.Comparing.{eq-values}
 
 -- ---- `stepped`: where the remainder is 0, and where it is not
 
@@ -41,7 +40,7 @@ unfolding ofBits neg lt
 below-nought nan h = absurd (false≢true h)
 below-nought (inf true) h = refl
 below-nought (inf false) h = absurd (false≢true h)
-below-nought (fin true m e) h = is-true (ltb (0 * down e) (m * up e * 1)) (lt→ltb (0 * down e) (m * up e * 1) (go (m * up e) (down e) (ltb-true 0 (m * up e * 1 + 0 * down e) h)))
+below-nought (fin true m e) h = lt-ltb (0 * down e) (m * up e * 1) (go (m * up e) (down e) (ltb-true 0 (m * up e * 1 + 0 * down e) h))
   where
     go : (n d : ℕ) → 0 < n * 1 + 0 * d → 0 * d < n * 1
     go n d h = omega arith
@@ -139,23 +138,16 @@ under (fin false m e) p h = (m, e, refl, go (m * up e) (down e) (ltb-true (m * u
 pub cut-lt : (n d : ℕ) → 0 < d → n < 2 ^ 52 * d → n / d < 2 ^ 52
 cut-lt n d D h = div-lt-iff-lt-mul D .1 h
 
--- what has q's value equals n / d exactly where q * d is n
-level-to : (v : Float) (q m : ℕ) (e : ℤ) → HasValue v false q 1 → T (eq v (fin false m e)) → m * up e ≡ q * down e
-unfolding eq
-level-to nan q m e h t = absurd h
-level-to (inf s) q m e h t = absurd h
-level-to (fin s n c) q m e h t =
-    let k : n * up c * down e ≡ m * up e * down c = eqb→eq (n * up c * down e) (m * up e * down c) (and-l (eqb (n * up c * down e) (m * up e * down c)) (Bool·beq s false || eqb (n * up c * down e) 0) t) in
-    sym (eq-of-mul-eq-mul-right (down c) (down-pos c) (q * down e) (m * up e) (mul-right-comm q (down e) (down c) ∙ ap (λ (x : ℕ). x * down e) (sym (h .1) ∙ mul-one (n * up c)) ∙ k))
-
-to-level : (v : Float) (q m : ℕ) (e : ℤ) → HasValue v false q 1 → m * up e ≡ q * down e → T (eq v (fin false m e))
-unfolding eq
-to-level nan q m e h k = absurd h
-to-level (inf s) q m e h k = absurd h
-to-level (fin true n c) q m e h k = absurd (true≢false (h .0))
-to-level (fin false n c) q m e h k =
-    and-i (eqb (n * up c * down e) (m * up e * down c)) true
-    (eq→eqb (ap (λ (x : ℕ). x * down e) (sym (mul-one (n * up c)) ∙ h .1) ∙ mul-right-comm q (down c) (down e) ∙ ap (λ (x : ℕ). x * down c) (sym k))) tt
+-- what has q's size equals n / d exactly where q * d is n
+eq-whole : (v : Float) (q m : ℕ) (e : ℤ) → HasValue v false q 1 → eq v (fin false m e) ≡ eqb (q * down e) (m * up e)
+eq-whole v q m e h =
+    eq-values false false q 1 (m * up e) (down e) (omega arith) (down-pos e) v (fin false m e) h (refl, refl)
+    ∙ ap (λ (n : ℕ). eqb (q * down e) n && true) (mul-one (m * up e))
+    ∙ and-true (eqb (q * down e) (m * up e))
+  where
+    and-true : (b : Bool) → b && true ≡ b
+    and-true true = refl
+    and-true false = refl
 
 ofInt-is : (n : ℕ) → ofInt binary64 (pos n) ≡ round binary64 false n 1
 unfolding ofInt
@@ -210,19 +202,19 @@ module _ (y : Float) (p : lt nought y ≡ true) (h : lt y (ofBits binary64 0x433
     parts : q * down e + m * up e % down e ≡ m * up e
     parts = ap (λ (a : ℕ). a * down e + m * up e % down e) q-is ∙ div-add-mod' (m * up e) (down e)
 
+    eq-y : eq (ofInt binary64 (pos q)) y ≡ eqb (q * down e) (m * up e)
+    eq-y = ap (λ (v : Float). eq (ofInt binary64 (pos q)) v) (u .2) ∙ eq-whole (ofInt binary64 (pos q)) q m e val
+
     pub when-whole : eq (ofInt binary64 (pos q)) y ≡ true → (y ≡ floored y) × (y ≡ ceiled y)
     unfolding floored ceiled
     when-whole t =
-        let n : m * up e ≡ q * down e = level-to (ofInt binary64 (pos q)) q m e val (holds (ap (λ (v : Float). eq (ofInt binary64 (pos q)) v) (sym (u .2)) ∙ t)) in
+        let n = eqb-true (q * down e) (m * up e) (sym eq-y ∙ t) in
         let w = parts in
         let z : m * up e % down e ≡ 0 = omega arith in
         subst (λ (v : Float). (v ≡ floored v) × (v ≡ ceiled v)) (sym (u .2)) (sym (whole-step 0 false m e z), sym (whole-step 1 false m e z))
 
     not-whole : eq (ofInt binary64 (pos q)) y ≡ false → m * up e % down e ≡ 0 → ⊥
-    not-whole t z =
-        let w = parts in
-        let n : m * up e ≡ q * down e = omega arith in
-        true≢false (sym (is-true (eq (ofInt binary64 (pos q)) y) (subst (λ (v : Float). T (eq (ofInt binary64 (pos q)) v)) (sym (u .2)) (to-level (ofInt binary64 (pos q)) q m e val n))) ∙ t)
+    not-whole t z = let w = parts in eqb-false (q * down e) (m * up e) (sym eq-y ∙ t) (omega arith)
 
     pub floor-part : eq (ofInt binary64 (pos q)) y ≡ false → ofInt binary64 (pos q) ≡ floored y
     unfolding floored

@@ -137,6 +137,13 @@ div-neg-right f (fin s m e) nan = refl
 div-neg-right f (fin s m e) (inf t) = ap (λ (u : Bool). fin u 0 (pos 0)) (unlike-neg-right s t)
 div-neg-right f (fin s m e) (fin t n d) = quotient-neg f (eqb n 0) (eqb m 0) _ _ (m * up e * down d) (n * up d * down e) (unlike-neg-right s t)
 
+-- both negated: a square does not know its root's sign
+pub mul-neg-both : (f : Format) (x y : Float) → mul f (neg x) (neg y) ≡ mul f x y
+mul-neg-both f x y = mul-neg-left f x (neg y) ∙ ap neg (mul-neg-right f x y) ∙ neg-neg (mul f x y)
+
+pub div-neg-both : (f : Format) (x y : Float) → div f (neg x) (neg y) ≡ div f x y
+div-neg-both f x y = div-neg-left f x (neg y) ∙ ap neg (div-neg-right f x y) ∙ neg-neg (div f x y)
+
 -- ---- sum and difference: both operands negated. Where the exact sum of two unlike signs is zero the result is +0 both times
 
 abbrev plusZero : Float

@@ -1,11 +1,15 @@
 -- `arith::largest` meets its contract: the definition picks by the same two tests, since only a NaN differs from itself. Assumes nothing.
 use mathlib.Core.Path.{sym, _∙_}
+use borrow.Author.Needs.{needs}
 use Rattle.numbers.specs.Comparing.{ne-itself}
 use Rattle.arith.proofs.pick.largest.Statement.{statement}
 use Rattle.arith.proofs.pick.largest.Tie as tie
 
+canonical64-requires : tie.Need-canonical64-requires
+canonical64-requires c κs = search needs
+
 returns : tie.Need-returns
-returns c = rw (sym (ne-itself (c .before .args .x)) ∙ c .if1 .taken)
+returns c = rw (sym (ne-itself (c .before .before .args .x)) ∙ c .before .if1 .taken) (c .canonical64 .ensures)
 
 returns-2 : tie.Need-returns-2
 returns-2 c = rw (sym (ne-itself (c .before .before .args .x)) ∙ c .before .if1 .left, c .if2 .taken)
@@ -14,4 +18,4 @@ returns-3 : tie.Need-returns-3
 returns-3 c = rw (sym (ne-itself (c .before .before .args .x)) ∙ c .before .if1 .left, c .if2 .left)
 
 pub largest-spec : {M : Type 1} → statement M
-largest-spec = tie.close (tie.spec returns returns-2 returns-3)
+largest-spec = tie.close (tie.spec canonical64-requires returns returns-2 returns-3)

@@ -4,6 +4,7 @@ use mathlib.Core.Bool.{not}
 use lib.Dec.{T}
 use lib.Ieee.{binary64, fits}
 use Rattle.numbers.specs.Comparing.{ne-itself}
+use Rattle.numbers.specs.NanTest.{differs, zero-by-zero}
 use Rattle.numbers.specs.Signs.{sign-clear, sign-set, sign-nan}
 use Rattle.arith.proofs.pick.sign.Statement.{statement}
 use Rattle.arith.proofs.pick.sign.Tie as tie
@@ -13,7 +14,7 @@ held : (c : tie.Start) → T (fits binary64 (c .args .x))
 held c = subst T (sym (c .good .0 .1)) tt
 
 returns : tie.Need-returns
-returns c = let x = c .before .args .x in sign-nan x (sym (ne-itself x) ∙ c .if1 .taken)
+returns c = let x = c .before .args .x in zero-by-zero binary64 ∙ (sym (differs x (c .if1 .taken)) ∙ sign-nan x (sym (ne-itself x) ∙ c .if1 .taken))
 
 float-to-bits-if2 : tie.Need-float-to-bits-if2
 float-to-bits-if2 c = subst (λ b. T (not b)) (sym (c .if1 .left) ∙ ne-itself (c .before .args .x)) tt

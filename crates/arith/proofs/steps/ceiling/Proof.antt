@@ -19,8 +19,11 @@ below-requires c κs = below-nought (c .before .before .args .x) (c .if2 .taken)
 returns-2 : tie.Need-returns-2
 returns-2 c = let x = c .before .before .before .args .x in ap neg (c .below .ensures ∙ floored-neg x) ∙ neg-neg _
 
+canonical64-requires : tie.Need-canonical64-requires
+canonical64-requires c κs = search needs
+
 returns-3 : tie.Need-returns-3
-returns-3 c = at-rest (c .before .before .args .x) (c .before .if1 .left) (c .if2 .left) .1
+returns-3 c = c .canonical64 .ensures ∙ at-rest (c .before .before .before .args .x) (c .before .before .if1 .left) (c .before .if2 .left) .1
 
 pub ceiling-spec : {M : Type 1} → statement M
-ceiling-spec = tie.close (tie.spec above-requires returns below-requires returns-2 returns-3)
+ceiling-spec = tie.close (tie.spec above-requires returns below-requires returns-2 canonical64-requires returns-3)

@@ -1,0 +1,75 @@
+-- A square strictly between 1e-24 and 1e30 has a usable length for its root: `quick`. For the root keeps order, and the roots of those two are 2B8CBCCC exactly and a finite number.
+-- Assumes nothing.
+use mathlib.Core.Path.{_≡_, refl, subst}
+use mathlib.Core.Bool.{true, false, false≢true}
+use lib.Dec.{T}
+use lib.IntN.{pos}
+use lib.Ieee.{Float, nan, inf, fin, binary32, ofBits, lt, le, isNan}
+use lib.Ieee.Fits.{add-fits}
+use lib.Ieee.Scale.{finite}
+use Rattle.numbers.specs.Arithmetic.{rooted}
+use Rattle.numbers.specs.RootOrder.{rooted-mono}
+use Rattle.numbers.specs.SumOfSquares.{Square, none, far, some, mul-square, add-square, lt-le, le-not, not-negative}
+use Rattle.numbers.specs.RootSquares.{HeldSquare, root-held}
+use Rattle.points.specs.Points.{squaresOf, shortest, lengthUsability, isUsable}
+
+-- every such sum is a square that f32 holds
+pub squares-held : (x y z : Float) → HeldSquare binary32 (squaresOf x y z)
+squares-held x y z =
+    record {
+      kind = add-square binary32 _ _ (add-square binary32 _ _ (mul-square binary32 x) (mul-square binary32 y)) (mul-square binary32 z);
+      fit = add-fits binary32 _ _;
+    }
+
+-- ---- the two bounds and their roots
+
+abbrev low24 : Float
+low24 = ofBits binary32 0x179A_BE15
+
+abbrev high30 : Float
+high30 = ofBits binary32 0x7149_F2CA
+
+abbrev high15 : Float
+high15 = ofBits binary32 0x5863_5FA9
+
+low-root : rooted binary32 low24 ≡ shortest
+unfolding ofBits rooted
+low-root = refl
+
+high-root : rooted binary32 high30 ≡ high15
+unfolding ofBits rooted
+high-root = refl
+
+low-positive : T (le (fin false 0 (pos 0)) low24)
+unfolding ofBits le
+low-positive = tt
+
+shortest-square : Square shortest
+unfolding ofBits
+shortest-square = some
+
+-- ---- what lies between
+
+finite-under : (x : Float) → Square x → T (le x high15) → finite x ≡ true
+unfolding ofBits le
+finite-under nan none t = absurd t
+finite-under (inf false) far t = absurd t
+finite-under (fin false m e) some t = refl
+
+above-number : (y x : Float) → lt y x ≡ true → isNan x ≡ false
+unfolding lt isNan
+above-number nan x t = absurd (false≢true t)
+above-number (inf s) nan t = absurd (false≢true t)
+above-number (fin s m e) nan t = absurd (false≢true t)
+above-number (inf s) (inf r) t = refl
+above-number (inf s) (fin r n d) t = refl
+above-number (fin s m e) (inf r) t = refl
+above-number (fin s m e) (fin r n d) t = refl
+
+pub quick : (q : Float) → HeldSquare binary32 q → lt low24 q ≡ true → lt q high30 ≡ true → true ≡ isUsable (lengthUsability (rooted binary32 q))
+unfolding lengthUsability
+quick q g a b =
+    let k = root-held binary32 q g .kind in
+    let low : T (le shortest (rooted binary32 q)) = subst (λ (v : Float). T (le v (rooted binary32 q))) low-root (rooted-mono binary32 low24 q low-positive (lt-le low24 q a)) in
+    let high : T (le (rooted binary32 q) high15) = subst (λ (v : Float). T (le (rooted binary32 q) v)) high-root (rooted-mono binary32 q high30 (not-negative q (g .kind) (above-number low24 q a)) (lt-le q high30 b)) in
+    rw (finite-under (rooted binary32 q) k high, le-not shortest (rooted binary32 q) shortest-square k low)
