@@ -4,7 +4,7 @@ ghost use mathlib.Core.Path.{_≡_};
 ghost use Prim.Native.Nat.{_+_, _-_, _*_, _≤_, _<_};
 ghost use lib.ListN.{length};
 ghost use Rattle.lists.specs.Lists.{tabulate};
-ghost use Rattle.grid.specs.Grid.{Sides, atEnd, boundaryRow};
+ghost use Rattle.grid.specs.Grid.{Sides};
 ghost use Rattle.solver.specs.Solver.{allNodes, stencilAt, applyAt, applied};
 ghost use Rattle.solver.specs.Inner.{innerRowAt};
 use grid::Grid;
@@ -35,32 +35,14 @@ fn inner_row(x: &[f32], y: &mut [f32], first: Node, plane: usize)
     y[k] = 0.0;
 }
 
-// Whether a count is the first or the last of its axis.
-fn at_end(n: usize, i: usize) -> bool
-    requires { ⌜ 0 < n ⌝ }
-    ensures { λ r. ⌜ r ≡ atEnd n i ⌝ }
-{
-    i == 0 || i == n - 1
-}
-
-// Whether all of row i·n+j is on the boundary, by its i or its j.
-fn boundary_row(n: usize, row: usize) -> bool
-    requires { ⌜ 0 < n ⌝ }
-    ensures { λ r. ⌜ r ≡ boundaryRow n row ⌝ }
-{
-    if at_end(n, row / n) {
-        return true;
-    }
-    at_end(n, row % n)
-}
-
 // Row i·n+j of A x.
-fn apply_row(x: &[f32], y: &mut [f32], n: usize, row: usize)
-    requires { ⌜ Sides n ⌝ }
-    requires { ⌜ (row < n * n) × (length (now x) ≡ n * n * n) × (length (now y) ≡ n) ⌝ }
-    ensures { λ _. ⌜ now (y .exit) ≡ tabulate n (λ k. applyAt n (now (x .entry)) (row * n + k)) ⌝ }
+fn apply_row(g: Grid, x: &[f32], y: &mut [f32], row: usize)
+    requires { ⌜ Sides (g .nodes) ⌝ }
+    requires { ⌜ (row < g .nodes * g .nodes) × (length (now x) ≡ allNodes g) × (length (now y) ≡ g .nodes) ⌝ }
+    ensures { λ _. ⌜ now (y .exit) ≡ tabulate (g .nodes) (λ k. applyAt (g .nodes) (now (x .entry)) (row * g .nodes + k)) ⌝ }
 {
-    if boundary_row(n, row) {
+    let n = g.nodes;
+    if g.boundary_row(row) {
         lists::clear_f32(y);
     } else {
         inner_row(x, y, Node::of(row * n), n * n);
@@ -68,17 +50,18 @@ fn apply_row(x: &[f32], y: &mut [f32], n: usize, row: usize)
 }
 
 // A x between the first plane and the last: y has those planes only.
-fn apply_between(x: &[f32], y: &mut [f32], n: usize)
-    requires { ⌜ Sides n ⌝ }
-    requires { ⌜ (length (now x) ≡ n * n * n) × (length (now y) ≡ (n - 2) * n * n) ⌝ }
-    ensures { λ _. ⌜ now (y .exit) ≡ tabulate ((n - 2) * n * n) (λ k. applyAt n (now (x .entry)) (n * n + k)) ⌝ }
+fn apply_between(g: Grid, x: &[f32], y: &mut [f32])
+    requires { ⌜ Sides (g .nodes) ⌝ }
+    requires { ⌜ (length (now x) ≡ allNodes g) × (length (now y) ≡ (g .nodes - 2) * g .nodes * g .nodes) ⌝ }
+    ensures { λ _. ⌜ now (y .exit) ≡ tabulate ((g .nodes - 2) * g .nodes * g .nodes) (λ k. applyAt (g .nodes) (now (x .entry)) (g .nodes * g .nodes + k)) ⌝ }
 {
+    let n = g.nodes;
     let rows = (n - 2) * n;
     let mut r = 0usize;
     while r < rows {
         let a = r * n;
         let e = a + n;
-        apply_row(x, &mut y[a..e], n, n + r);
+        apply_row(g, x, &mut y[a..e], n + r);
         r += 1;
     }
 }
@@ -95,6 +78,6 @@ pub fn apply(g: Grid, x: &[f32], y: &mut [f32])
     let end = plane * n;
     let last = end - plane;
     lists::clear_f32(&mut y[0..plane]);
-    apply_between(x, &mut y[plane..last], n);
+    apply_between(g, x, &mut y[plane..last]);
     lists::clear_f32(&mut y[last..end]);
 }

@@ -5,3 +5,4 @@ mod laplacian;
 mod vectors;
 
 pub use gradients::conjugate_gradient;
+pub use vectors::copy;

@@ -16,7 +16,7 @@ clear-f32-requires : tie.Need-clear-f32-requires
 clear-f32-requires c κs = search needs
 
 mul-of : tie.Need-mul-of
-mul-of c = let s = c .before .before .before .before .before in omega (arith, row-end (s .args .n) (s .pre .1 .0), cube-most (s .pre .0 .most))
+mul-of c = let s = c .before .before .before .before .before in omega (arith, row-end (s .args .g .nodes) (s .pre .1 .0), cube-most (s .pre .0 .most))
 
 of-requires : tie.Need-of-requires
 of-requires c κs = search needs
@@ -27,8 +27,8 @@ mul-inner-row c = omega (arith, square-most (c .before .before .before .before .
 inner-row-requires : tie.Need-inner-row-requires
 inner-row-requires c κs =
     let s = c .before .before .before .before .before .before in
-    let some : 0 < s .args .n = omega (arith, s .pre .0 .two) in
-    omega (arith, c .of .ensures, s .pre .0 .two, s .pre .1, row-plane some, inner-row (s .args .n) (s .pre .1 .0) (sym (c .before .before .before .boundary-row .ensures) ∙ c .before .before .if1 .left))
+    let some : 0 < s .args .g .nodes = omega (arith, s .pre .0 .two) in
+    omega (arith, c .of .ensures, s .pre .0 .two, s .pre .1, row-plane some, inner-row (s .args .g .nodes) (s .pre .1 .0) (sym (c .before .before .before .boundary-row .ensures) ∙ c .before .before .if1 .left))
 
 same-length : tie.Need-same-length
 same-length c = search needs
@@ -36,7 +36,7 @@ same-length c = search needs
 returns : tie.Need-returns
 returns c =
     let s = c .before .before .before .before .before .before .before .before in
-    c .before .before .clear-f32 .ensures ∙ boundary-row-is (s .args .n) (now (s .args .x)) (s .args .row) (s .pre .1 .2) (sym (c .before .before .before .before .before .boundary-row .ensures) ∙ c .before .before .before .before .if1 .taken)
+    c .before .before .clear-f32 .ensures ∙ boundary-row-is (s .args .g .nodes) (now (s .args .x)) (s .args .row) (s .pre .1 .2) (sym (c .before .before .before .before .before .boundary-row .ensures) ∙ c .before .before .before .before .if1 .taken)
 
 same-length-2 : tie.Need-same-length-2
 same-length-2 c = search needs
@@ -44,7 +44,7 @@ same-length-2 c = search needs
 returns-2 : tie.Need-returns-2
 returns-2 c =
     let s = c .before .before .before .before .before .before .before .before .before in
-    c .before .before .inner-row .ensures ∙ inner-row-is (s .args .n) (now (s .args .x)) (s .args .row) (s .pre .1 .2) (c .before .before .before .of .ensures) (sym (c .before .before .before .before .before .before .boundary-row .ensures) ∙ c .before .before .before .before .before .if1 .left)
+    c .before .before .inner-row .ensures ∙ inner-row-is (s .args .g .nodes) (now (s .args .x)) (s .args .row) (s .pre .1 .2) (c .before .before .before .of .ensures) (sym (c .before .before .before .before .before .before .boundary-row .ensures) ∙ c .before .before .before .before .before .if1 .left)
 
 pub apply-row-spec : {M : Type 1} → statement M
 apply-row-spec =
