@@ -1,0 +1,5 @@
+pub mod Cells
+pub mod FirstUse
+pub mod Marking
+pub mod Points
+pub mod Rows

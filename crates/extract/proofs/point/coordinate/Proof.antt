@@ -1,0 +1,18 @@
+-- `extract::point::coordinate` meets its contract.
+-- Assumes nothing.
+use mathlib.Core.Path.{_∙_}
+use borrow.Author.Needs.{needs}
+use Rattle.extract.proofs.point.coordinate.Statement.{statement}
+use Rattle.extract.proofs.point.coordinate.Tie as tie
+
+narrow-requires : tie.Need-narrow-requires
+narrow-requires c κs = search needs
+
+canonical32-requires : tie.Need-canonical32-requires
+canonical32-requires c κs = search needs
+
+returns : tie.Need-returns
+returns c = c .canonical32 .ensures ∙ c .before .narrow .ensures
+
+pub coordinate-spec : {M : Type 1} → statement M
+coordinate-spec = tie.close (tie.spec narrow-requires canonical32-requires returns)

@@ -1,0 +1,141 @@
+-- The words of the passes' contracts: cells and their faces by the number of their corner 0, a state that goes from edge to edge, and what the passes ask
+-- and promise. The laws that turn them into the words of Extraction are in proofs/. Definitions only; assumes nothing.
+use mathlib.Core.Path.{_≡_}
+use mathlib.Core.Bool.{cond}
+use mathlib.Core.List.{List, [], _∷_, map, foldl}
+use Prim.Native.Nat.{ℕ, suc, _+_, _-_, _*_, _%_, _≤_, _<_}
+use lib.Dec.{eqb}
+use lib.Ieee.{Float}
+use lib.ListN.{length, getD, set}
+use lib.Seq.{sets}
+use Rattle.lists.specs.Lists.{at, tabulate}
+use Rattle.closed.specs.Lists.{cells}
+use Rattle.closed.specs.Faces.{Face, mapFace, corners}
+use Rattle.closed.specs.Numbering.{slot}
+use Rattle.closed.specs.Table.{cornerAt, lowOf, axisOf, caseOf}
+use Rattle.closed.specs.Rows.{emitted}
+use Rattle.closed.specs.Grid.{node, edge}
+use Rattle.grid.specs.Grid.{Counts, nodeOf}
+use Rattle.grid.specs.declared.Lattice.{Lattice}
+use Rattle.extract.specs.Extraction.{countX, countY, countZ, isBelow, edgeFaces, vertexEdges}
+use Rattle.extract.specs.declared.Totals.{Totals}
+
+-- ---- a cell by the number n of its corner 0
+
+-- how much greater the number of corner c is, and that of edge e than 3·n
+abbrev pub nodeOffset : (ny nz c : ℕ) → ℕ
+nodeOffset ny nz c = node ny nz (cornerAt c .0) (cornerAt c .1) (cornerAt c .2)
+
+abbrev pub edgeOffset : (ny nz e : ℕ) → ℕ
+edgeOffset ny nz e = edge (nodeOffset ny nz (lowOf e)) (axisOf e)
+
+unfoldable pub caseAt : (values : List Float) (ny nz : ℕ) (iso : Float) (n : ℕ) → ℕ
+caseAt values ny nz iso n = caseOf (λ c. isBelow (at values (n + nodeOffset ny nz c)) iso)
+
+-- the faces of a case over the edges from `first` on
+unfoldable pub rowFaces : (offsets : List ℕ) (first case : ℕ) → List Face
+rowFaces offsets first case = map (mapFace (λ e. first + getD offsets e 0)) (emitted case)
+
+abbrev pub offsetsOf : (ny nz : ℕ) → List ℕ
+offsetsOf ny nz = tabulate 12 (edgeOffset ny nz)
+
+unfoldable pub facesAt : (values : List Float) (ny nz : ℕ) (iso : Float) (n : ℕ) → List Face
+facesAt values ny nz iso n = rowFaces (offsetsOf ny nz) (3 * n) (caseAt values ny nz iso n)
+
+-- of the cells of a line, of a plane and of all, whose first node is n
+abbrev pub lineFaces : (values : List Float) (ny nz : ℕ) (iso : Float) (n k : ℕ) → List Face
+lineFaces values ny nz iso n k = cells k (λ c. facesAt values ny nz iso (n + c))
+
+abbrev pub planeFaces : (values : List Float) (ny nz : ℕ) (iso : Float) (n j : ℕ) → List Face
+planeFaces values ny nz iso n j = cells j (λ b. lineFaces values ny nz iso (n + b * nz) (nz - 1))
+
+abbrev pub blockFaces : (values : List Float) (ny nz : ℕ) (iso : Float) (i : ℕ) → List Face
+blockFaces values ny nz iso i = cells i (λ a. planeFaces values ny nz iso (a * (ny * nz)) (ny - 1))
+
+-- ---- an edge of the lattice: the number of its upper node is greater by the stride of its axis
+
+unfoldable pub stride : (ny nz axis : ℕ) → ℕ
+stride ny nz axis = cond (eqb axis 0) (ny * nz) (cond (eqb axis 1) nz 1)
+
+-- both its nodes have a value, and there are no more of those than there are nodes
+pub record Inner (values : List Float) (l : Lattice) (e : ℕ) : Type 0 where
+  pub upper : nodeOf e + stride (countY l) (countZ l) (e % 3) < length values
+  pub most : length values ≤ 16777216
+
+-- ---- numbering: the table, and how many edges have a number
+
+abbrev pub Marks : Type 0
+Marks = List ℕ × ℕ
+
+-- an edge gets the next number, one more than its place, unless it has one
+abbrev pub mark1 : Marks → ℕ → Marks
+mark1 s e = cond (eqb (getD (s .0) e 0) 0) (set (s .0) e (s .1 + 1), s .1 + 1) s
+
+unfoldable pub markAll : Marks → List ℕ → Marks
+markAll s [] = s
+markAll s (e ∷ es) = markAll (mark1 s e) es
+
+-- the edges of a cell, from `first` on, lie in a table of m
+abbrev pub EdgesIn : (offsets : List ℕ) (first m : ℕ) → Type 0
+EdgesIn offsets first m = ((e : ℕ) → e < 12 → first + getD offsets e 0 < m) × (m ≤ 50331648)
+
+-- three of the cube's edges
+pub record CubeFace (f : List ℕ) : Type 0 where
+  pub a : getD f 0 0 < 12
+  pub b : getD f 1 0 < 12
+  pub c : getD f 2 0 < 12
+
+-- what is known when the cells up to node n are passed: at most fifteen of each a cell
+pub record Few (t : Totals) (n : ℕ) : Type 0 where
+  pub vertices : t .vertices ≤ 15 * n
+  pub faces : t .faces ≤ 15 * n
+
+abbrev pub none : Totals
+none = record { vertices = 0; faces = 0 }
+
+-- the faces fs were gone through, from `had` to `got`, with the table t' for t
+pub record Numbered (t t' : List ℕ) (had got : Totals) (fs : List Face) : Type 0 where
+  pub marks : _≡_ {A = Marks} (t', got .vertices) (markAll (t, had .vertices) (corners fs))
+  pub counted : got .faces ≡ had .faces + length fs
+
+-- what a line from node n asks: cells in the values, edges in the table, few numbers so far
+pub record Line (values : List Float) (table : List ℕ) (ny nz n : ℕ) (had : Totals) : Type 0 where
+  pub two : 2 ≤ nz
+  pub inside : n + ny * nz + nz + nz ≤ length values
+  pub edges : length table ≡ 3 * length values
+  pub most : length values ≤ 16777216
+  pub few : Few had n
+
+pub record Plane (values : List Float) (table : List ℕ) (ny nz n : ℕ) (had : Totals) : Type 0 where
+  pub two : 2 ≤ nz
+  pub rows : 2 ≤ ny
+  pub inside : n + ny * nz + ny * nz ≤ length values
+  pub edges : length table ≡ 3 * length values
+  pub most : length values ≤ 16777216
+  pub few : Few had n
+
+pub record Block (values : List Float) (table : List ℕ) (nx ny nz : ℕ) : Type 0 where
+  pub two : 2 ≤ nz
+  pub rows : 2 ≤ ny
+  pub planes : 2 ≤ nx
+  pub inside : length values ≡ nx * ny * nz
+  pub edges : length table ≡ 3 * length values
+  pub most : length values ≤ 16777216
+
+-- ---- what the two passes ask and promise
+
+-- the values and the edge table of a lattice
+pub record Ready (values : List Float) (table : List ℕ) (l : Lattice) : Type 0 where
+  pub counts : Counts (l .counts)
+  pub nodes : length values ≡ countX l * countY l * countZ l
+  pub edges : length table ≡ 3 * (countX l * countY l * countZ l)
+
+-- each edge's number: one more than its vertex, or 0
+abbrev pub edgeTable : (values : List Float) (l : Lattice) (iso : Float) → List ℕ
+edgeTable values l iso = tabulate (3 * (countX l * countY l * countZ l)) (slot (vertexEdges values l iso))
+
+-- the table is numbered at first use; V and F are the lengths of the definitions
+pub record Counted (values : List Float) (table : List ℕ) (l : Lattice) (iso : Float) (r : Totals) : Type 0 where
+  pub numbers : table ≡ edgeTable values l iso
+  pub vertices : r .vertices ≡ length (vertexEdges values l iso)
+  pub faces : r .faces ≡ length (edgeFaces values l iso)
