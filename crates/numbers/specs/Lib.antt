@@ -34,16 +34,3 @@ pub mod RoundOverflow
 pub mod NarrowNearest
 pub mod SumOfSquares
 pub mod RootSquares
-pub mod Opposite
-pub mod Comparing
-pub mod Symmetry
-pub mod Signs
-pub mod Casts
-pub mod Series
-pub mod Steps
-pub mod Whole
-pub mod Between
-pub mod Floors
-pub mod RoundNearest
-pub mod RoundOverflow
-pub mod NarrowNearest
