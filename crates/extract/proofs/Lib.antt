@@ -1,5 +1,7 @@
 pub mod Cells
+pub mod FirstPlace
 pub mod FirstUse
 pub mod Marking
+pub mod Placing
 pub mod Points
 pub mod Rows

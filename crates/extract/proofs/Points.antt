@@ -11,13 +11,17 @@ use lib.Ieee.{Float, binary64, inFloat}
 use lib.ListN.{length, getD}
 use Rattle.lists.specs.Lists.{at}
 use Rattle.numbers.specs.Arithmetic.{narrowed}
-use Rattle.closed.specs.Grid.{node}
+use Rattle.closed.specs.Table.{cornerAt, lowOf}
+use Rattle.closed.specs.Table as table
+use Rattle.closed.specs.Grid.{node, edge}
 use Rattle.grid.specs.Grid.{coordsOf, nodeOf, axisOf, worldAlong}
 use Rattle.grid.specs.Numbering.{node-of-coords}
 use Rattle.grid.specs.declared.Lattice.{Lattice}
 use Rattle.extract.specs.Extraction.{countY, countZ, crossing, unit, lowerValue, upperValue, countAlong, coordinate, edgePoint}
-use Rattle.extract.specs.Passes.{stride, Inner}
-use Rattle.extract.proofs.Cells.{flat, node-add}
+use Rattle.extract.specs.Passes.{stride, Inner, nodeOffset, edgeOffset, offsetsOf, EdgesOf}
+use Rattle.extract.proofs.Cells.{flat, node-add, unit-node, offset-at}
+use Rattle.extract.proofs.Rows.{edges-in}
+use Rattle.cubes.specs.Edges.{in-cube, axis-small}
 
 pub count-float : {n : ℕ} → n ≤ 16777216 → T (inFloat binary64 (pos n))
 unfolding inFloat
@@ -74,3 +78,29 @@ coords-small values l e q place h a b =
       le-trans (mod-le (q / countZ l) (countY l)) (le-trans r few),
       le-trans (mod-le q (countZ l)) few,
     )
+
+-- ---- the edges of the cell at node m: each lies in the table and has both its nodes
+
+module _ (values : List Float) (l : Lattice) (m all first : ℕ) (offsets : List ℕ) (o : offsets ≡ offsetsOf (countY l) (countZ l)) (f : first ≡ edge m 0)
+    (h : m + countY l * countZ l + countZ l + 1 < length values) (a : all ≡ 3 * length values) (few : length values ≤ 16777216) where
+  edge-inner : (e : ℕ) → e < 12 → Inner values l (first + getD offsets e 0)
+  unfolding edge
+  edge-inner e b =
+      let ny = countY l in
+      let nz = countZ l in
+      let c = cornerAt (lowOf e) in
+      let u = unit (table.axisOf e) in
+      let q = in-cube e b in
+      let E = first + getD offsets e 0 in
+      let off : getD offsets e 0 ≡ edgeOffset ny nz e = ap (λ (t : List ℕ). getD t e 0) o ∙ offset-at ny nz e b in
+      let small = axis-small e b in
+      let n : nodeOf E ≡ m + nodeOffset ny nz (lowOf e) = omega (arith, off, small) in
+      let x : E % 3 ≡ table.axisOf e = omega (arith, off, small) in
+      let s : stride ny nz (E % 3) ≡ node ny nz (u 0) (u 1) (u 2) = ap (stride ny nz) x ∙ sym (unit-stride ny nz (table.axisOf e) small) in
+      let last = unit-node ny nz (c .0 + u 0) (c .1 + u 1) (c .2 + u 2) (q .x) (q .y) (q .z) in
+      record { upper = omega (arith, n, s, last, node-add ny nz (c .0) (c .1) (c .2) (u 0) (u 1) (u 2), h); most = few }
+
+  pub edges-of : EdgesOf values l offsets first all
+  edges-of e b =
+      let t = edges-in (countY l) (countZ l) m (length values) all first offsets o f h a few in
+      (t .0 e b, omega (arith, t .0 e b, t .1), edge-inner e b)

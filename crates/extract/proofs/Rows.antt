@@ -6,7 +6,7 @@ use Prim.Native.Nat.{ℕ, suc, _+_, _*_, _≤_, _<_}
 use native.Mathlib.Numerals.{add-one}
 use native.Mathlib.Omega.{arith}
 use lib.Ieee.{Float}
-use lib.ListN.{length, getD, take, length-map}
+use lib.ListN.{length, getD, take, drop, length-map, take-append-drop}
 use lib.Seq.{take-suc, take-all}
 use Rattle.closed.specs.Lists.{cells}
 use Rattle.closed.specs.Faces.{Face, face, mapFace, corners, faceOf}
@@ -37,6 +37,13 @@ one-more offsets first case k h =
 pub all-faces : (offsets : List ℕ) (first case k : ℕ) → length (emitted case) ≤ k → firstFaces offsets first case k ≡ rowFaces offsets first case
 unfolding rowFaces
 all-faces offsets first case k h = ap (map (mapFace (λ e. first + getD offsets e 0))) (take-all k (emitted case) h)
+
+pub rest-faces : (offsets : List ℕ) (first case k : ℕ)
+    → rowFaces offsets first case ≡ firstFaces offsets first case k ++ map (mapFace (λ e. first + getD offsets e 0)) (drop k (emitted case))
+unfolding rowFaces
+rest-faces offsets first case k =
+    let g : Face → Face = mapFace (λ e. first + getD offsets e 0) in
+    ap (map g) (sym (take-append-drop k (emitted case))) ∙ map-append g (take k (emitted case)) (drop k (emitted case))
 
 pub cube-face : (c k : ℕ) (f : List ℕ) → c < 256 → k < length (emitted c) → faceOf f ≡ getD (emitted c) k (face 0 0 0) → CubeFace f
 cube-face c k f h b e =

@@ -3,9 +3,11 @@
 mod cell;
 mod number;
 mod point;
+mod write;
 
 pub use cell::below;
 pub use number::number_edges;
+pub use write::write_mesh;
 
 // How many vertices and how many faces there are.
 pub struct Totals {
