@@ -1,4 +1,4 @@
--- What it tells that the early checks pass: the depth's two sides, a positive smoothing, points, and scratch as long as stated. By taking `then` and `when` apart.
+-- What it tells that the early checks pass: the depth's two sides, a positive smoothing, points, and scratch as long as stated. By taking `then` and `when` apart; and how checks in a row go together.
 -- Assumes nothing.
 use mathlib.Core.Path.{_≡_, refl, sym, ap, _∙_}
 use mathlib.Core.Bool.{Bool, true, false, cond, not, _||_, true≢false}
@@ -41,6 +41,18 @@ both-pass v w e = by-cases (accepts v) refl e
     by-cases : (b : Bool) → accepts v ≡ b → cond b w v ≡ Pass → (v ≡ Pass) × (w ≡ Pass)
     by-cases true a h = (accepted v a, h)
     by-cases false a h = absurd (true≢false (sym (ap accepts h) ∙ a))
+
+-- it does not matter how checks in a row are grouped
+pub then-assoc : (u v w : Verdict) → (u then v) then w ≡ u then (v then w)
+then-assoc u v w = by-cases (accepts u) refl
+  where
+    by-cases : (b : Bool) → accepts u ≡ b → cond (accepts (cond b v u)) w (cond b v u) ≡ cond b (cond (accepts v) w v) u
+    by-cases true e = refl
+    by-cases false e = ap (λ (c : Bool). cond c w u) e
+
+-- a refusal stands, whatever would follow
+pub refusal-stands : (v w : Verdict) → accepts v ≡ false → v then w ≡ v
+refusal-stands v w e = ap (λ (b : Bool). cond b w v) e
 
 -- a refusal that is not given: its test fails
 pub unless : (v : Verdict) (b : Bool) → accepts v ≡ false → v when b ≡ Pass → b ≡ false

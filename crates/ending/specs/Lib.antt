@@ -1,0 +1,2 @@
+-- What a call's ending leaves.
+pub mod Ending
