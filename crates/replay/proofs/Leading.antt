@@ -6,7 +6,7 @@ use Prim.Native.Nat.{ℕ, suc, _+_, _*_, _%_, _^_, _<_, _≤_}
 use native.Mathlib.Numerals.{add-one}
 use lib.ListN.{length, getD, drop, drop-of-length-le}
 use lib.Seq.{drop-cons}
-use Rattle.replay.specs.Words.{blank, leading, digitOf, hexFrom}
+use Rattle.replay.specs.Words.{blank, leading, digitOf, spelled}
 
 pub leading-on : (kind : Bool) (s : List ℕ) (i : ℕ) → i < length s → Bool·beq (blank (getD s i 0)) kind ≡ true → leading kind (drop i s) ≡ suc (leading kind (drop (i + 1) s))
 unfolding leading
@@ -22,13 +22,13 @@ leading-ends kind s i h = rw (drop-of-length-le s {i = i} h)
 
 -- ---- digits
 
-pub hex-on : (s : List ℕ) (i v : ℕ) → i < length s → hexFrom v (drop i s) ≡ hexFrom (v % 2 ^ 60 * 16 + digitOf (getD s i 0)) (drop (i + 1) s)
-unfolding hexFrom
-hex-on s i v h = rw (drop-cons s i 0, add-one)
+pub digit-on : (base most : ℕ) (s : List ℕ) (i v : ℕ) → i < length s → spelled base most v (drop i s) ≡ spelled base most (v % most * base + digitOf (getD s i 0)) (drop (i + 1) s)
+unfolding spelled
+digit-on base most s i v h = rw (drop-cons s i 0, add-one)
 
-pub hex-ends : (s : List ℕ) (i v : ℕ) → length s ≤ i → hexFrom v (drop i s) ≡ v
-unfolding hexFrom
-hex-ends s i v h = rw (drop-of-length-le s {i = i} h)
+pub digits-end : (base most : ℕ) (s : List ℕ) (i v : ℕ) → length s ≤ i → spelled base most v (drop i s) ≡ v
+unfolding spelled
+digits-end base most s i v h = rw (drop-of-length-le s {i = i} h)
 
 -- ---- a test for "other than" that is not true
 

@@ -1,4 +1,4 @@
--- What the programs read that replay lists of worked values: words between blanks, and numbers in hexadecimal. Definitions only; assumes nothing.
+-- What the programs read that replay lists of worked values: words between blanks, and numbers in hexadecimal and in decimal. Definitions only; assumes nothing.
 use Prim.Native.Nat.{ℕ, suc, _+_, _-_, _*_, _%_, _^_}
 use mathlib.Core.Bool.{Bool, Bool·beq, cond}
 use mathlib.Core.List.{List, [], _∷_}
@@ -17,7 +17,15 @@ leading kind (b ∷ l) = cond (Bool·beq (blank b) kind) (suc (leading kind l)) 
 abbrev pub digitOf : ℕ → ℕ
 digitOf b = cond (ltb b 48) 0 (cond (ltb b 58) (b - 48) (cond (ltb b 65) 0 (cond (ltb b 71) (b - 55) 0)))
 
--- the number that the digits spell after v, modulo 2 ^ 64: the last sixteen count
-unfoldable pub hexFrom : ℕ → List ℕ → ℕ
-hexFrom v [] = v
-hexFrom v (b ∷ l) = hexFrom (v % 2 ^ 60 * 16 + digitOf b) l
+-- the number that digits of a base spell after v; of v only what lies below `most` is carried on
+unfoldable pub spelled : (base most v : ℕ) → List ℕ → ℕ
+spelled base most v [] = v
+spelled base most v (b ∷ l) = spelled base most (v % most * base + digitOf b) l
+
+-- in hexadecimal, modulo 2 ^ 64: the last sixteen digits count
+abbrev pub hexOf : List ℕ → ℕ
+hexOf = spelled 16 (2 ^ 60) 0
+
+-- in decimal, modulo 10 ^ 19, which is below 2 ^ 64: the last nineteen digits count
+abbrev pub decimalOf : List ℕ → ℕ
+decimalOf = spelled 10 (10 ^ 18) 0

@@ -1,9 +1,9 @@
-// Lists of worked values, for the programs that replay them: words between blanks, numbers in hexadecimal.
+// Lists of worked values, for the programs that replay them: words between blanks, numbers in hexadecimal and in decimal.
 ghost use mathlib.Core.Path.{_≡_};
 ghost use mathlib.Core.Bool.{Bool, true, false};
 ghost use Prim.Native.Nat.{_+_, _-_, _≤_, _<_};
 ghost use lib.ListN.{length, take, drop};
-ghost use Rattle.replay.specs.Words.{blank, leading, digitOf, hexFrom};
+ghost use Rattle.replay.specs.Words.{blank, leading, digitOf, hexOf, decimalOf};
 
 // A word's first place, and the place past its last byte.
 pub struct Word {
@@ -65,12 +65,25 @@ fn digit(b: u8) -> u64
 
 // The number that a word's hexadecimal digits spell.
 pub fn hex(text: &[u8]) -> u64
-    ensures { λ r. ⌜ r ≡ hexFrom 0 (now (text .entry)) ⌝ }
+    ensures { λ r. ⌜ r ≡ hexOf (now (text .entry)) ⌝ }
 {
     let mut v = 0u64;
     let mut i = 0usize;
     while i < text.len() {
         v = v % 0x1000_0000_0000_0000 * 16 + digit(text[i]);
+        i += 1;
+    }
+    v
+}
+
+// The number that a word's decimal digits spell.
+pub fn decimal(text: &[u8]) -> u64
+    ensures { λ r. ⌜ r ≡ decimalOf (now (text .entry)) ⌝ }
+{
+    let mut v = 0u64;
+    let mut i = 0usize;
+    while i < text.len() {
+        v = v % 1_000_000_000_000_000_000 * 10 + digit(text[i]);
         i += 1;
     }
     v

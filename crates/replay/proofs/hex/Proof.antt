@@ -4,13 +4,13 @@ use Prim.Native.Nat.{ℕ, _+_, _-_, _*_, _%_, _^_, _≤_, _<_}
 use native.Mathlib.Omega.{arith}
 use borrow.Author.Needs.{needs}
 use lib.ListN.{length, drop}
-use Rattle.replay.specs.Words.{hexFrom}
-use Rattle.replay.proofs.Leading.{hex-on, hex-ends}
+use Rattle.replay.specs.Words.{spelled}
+use Rattle.replay.proofs.Leading.{digit-on, digits-end}
 use Rattle.replay.proofs.hex.Statement.{statement}
 use Rattle.replay.proofs.hex.Tie as tie
 
 abbrev Inv-loop : tie.InvT-loop
-Inv-loop text v₀ i₀ v i = (hexFrom v (drop i text) ≡ hexFrom 0 text) × (i ≤ length text)
+Inv-loop text v₀ i₀ v i = (spelled 16 (2 ^ 60) v (drop i text) ≡ spelled 16 (2 ^ 60) 0 text) × (i ≤ length text)
 
 abbrev μ-loop : tie.MeasureT-loop
 μ-loop text v₀ i₀ v i = length text - i
@@ -41,14 +41,14 @@ loop-again c =
     let q = c .before .before .before in
     let t = q .before .before .args .text .now in
     let more : q .loop .i < length t = omega arith in
-    (ap (λ (d : ℕ). hexFrom (q .loop .v % 2 ^ 60 * 16 + d) (drop (q .loop .i + 1) t)) (c .digit .ensures .0) ∙ sym (hex-on t (q .loop .i) (q .loop .v) more) ∙ q .loop .inv .0, omega arith)
+    (ap (λ (d : ℕ). spelled 16 (2 ^ 60) (q .loop .v % 2 ^ 60 * 16 + d) (drop (q .loop .i + 1) t)) (c .digit .ensures .0) ∙ sym (digit-on 16 (2 ^ 60) t (q .loop .i) (q .loop .v) more) ∙ q .loop .inv .0, omega arith)
 
 returns : tie.Need-returns Inv-loop μ-loop
 returns c =
     let q = c .before in
     let t = q .before .before .args .text .now in
     let end : length t ≤ q .loop .i = omega arith in
-    sym (hex-ends t (q .loop .i) (q .loop .v) end) ∙ q .loop .inv .0
+    sym (digits-end 16 (2 ^ 60) t (q .loop .i) (q .loop .v) end) ∙ q .loop .inv .0
 
 pub hex-spec : {M : Type 1} → statement M
 hex-spec =
