@@ -1,14 +1,13 @@
 -- A loop over the elements 0, s, 2s.. of a list: what is left from here gives what all gives from the start (`Asking`). Between two of them no number is a multiple of s, for q·s + r
 -- with r below s leaves r. d is what is read past a list's end. Assumes nothing.
-use mathlib.Core.Path.{_≡_, refl, sym, ap, _∙_, subst}
-use mathlib.Core.Bool.{Bool, false, cond}
+use mathlib.Core.Path.{_≡_, refl, sym, ap, _∙_}
+use mathlib.Core.Bool.{Bool, cond}
 use mathlib.Core.List.{List, [], _∷_, foldl}
 use Prim.Native.Nat.{ℕ, zero, suc, _+_, _-_, _*_, _/_, _%_, _<_, _≤_}
 use native.Mathlib.Nat.{add-mul, one-mul, div-add-mod'}
 use native.Mathlib.Omega.{arith}
 use borrow.Author.Tests.{eq-eqb, ne-eqb}
 use lib.Arith.{digits-mod}
-use lib.Dec.{eqb}
 use lib.ListN.{length, getD, drop, drop-of-length-le}
 use lib.Seq.{drop-cons, drop-drop}
 use Rattle.points.specs.Spacing.{everyFrom}

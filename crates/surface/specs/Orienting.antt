@@ -11,7 +11,7 @@ use Rattle.closed.specs.Faces.{Face, face, Balanced, Apart, turn, corners, face
 use Rattle.closed.specs.Counting.{all-at}
 use Rattle.closed.specs.Turning.{balanced-turn, all-apart-turn, length-corners}
 use Rattle.grid.specs.declared.Grid.{Grid}
-use Rattle.surface.specs.Surface.{vertexCount, faceCount, Meshed, agreementOf, orientedFaces}
+use Rattle.surface.specs.Surface.{vertexCount, Meshed, agreementOf, orientedFaces}
 use Rattle.surface.specs.FlatFaces.{meshed-faces, meshed-corners}
 
 -- a turned face has the same corners

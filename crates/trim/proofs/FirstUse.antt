@@ -1,19 +1,19 @@
 -- Renumbering at first use: before face t the table holds the places of the vertices that the first t faces use, and those faces are over the new numbers (`Numbering`). What is noted keeps
 -- its place, so a number that is written early is right at the end. Assumes nothing.
-use mathlib.Core.Path.{_≡_, refl, sym, ap, ap₂, _∙_, subst}
+use mathlib.Core.Path.{_≡_, refl, sym, ap, _∙_, subst}
 use mathlib.Core.Logic.{_≢_}
 use mathlib.Core.Bool.{Bool, true, false, _||_}
 use mathlib.Core.List.{List, [], _∷_, _++_, map}
-use Prim.Native.Nat.{ℕ, zero, suc, _+_, _-_, _*_, _≤_, _<_}
+use Prim.Native.Nat.{ℕ, suc, _+_, _-_, _*_, _≤_, _<_}
 use native.Mathlib.Decide.{ℕ-discrete}
 use native.Mathlib.Numerals.{add-one}
 use native.Mathlib.Omega.{arith}
 use lib.ListN.{length, getD, set, take, drop, length-map, length-set, getD-replicate, take-append-drop}
 use lib.Seq.{take-suc, take-take, length-take-le, getD-take, getD-set-same, getD-set-other, ext-getD}
-use Rattle.lists.specs.Lists.{zerosU, fill}
-use Rattle.lists.specs.Fill.{fill-below, length-fill}
+use Rattle.lists.specs.Lists.{zerosU}
+use Rattle.lists.specs.Fill.{fill-below}
 use Rattle.closed.specs.Lists.{member, In}
-use Rattle.closed.specs.Faces.{Face, face, faces, faceOf, corners}
+use Rattle.closed.specs.Faces.{Face, faces, faceOf, corners}
 use Rattle.closed.specs.Numbering.{note, grow, dedup, indexOf, used, renumber, mesh, slot}
 use Rattle.closed.specs.Counting.{at-map}
 use Rattle.closed.specs.Mesh.{face-cong}

@@ -2,7 +2,6 @@
 -- overwritten. By induction on the vertices passed. Assumes nothing.
 use mathlib.Core.Path.{_≡_, refl, sym, ap, _∙_, subst}
 use mathlib.Core.Logic.{_≢_, ⊎-elim}
-use mathlib.Core.Bool.{true, false}
 use mathlib.Core.List.{List}
 use Prim.Native.Nat.{ℕ, zero, suc, _+_, _-_, _*_, _≤_, _<_}
 use native.Mathlib.Decide.{ℕ-discrete}
@@ -11,7 +10,6 @@ use lib.ListN.{length, getD, set, length-set}
 use lib.Seq.{getD-set-same, getD-set-other}
 use lib.Ieee.{Float, nan}
 use Rattle.lists.specs.Lists.{at}
-use Rattle.closed.specs.Lists.{member, In}
 use Rattle.closed.specs.Numbering.{indexOf, slot, NoRepeat}
 use Rattle.closed.specs.Renumber.{in-or-not, in-at, at-indexOf, indexOf-at, slot-in, slot-out}
 use Rattle.surface.specs.Surface.{vertexCount, coordinate}

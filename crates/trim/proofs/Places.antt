@@ -1,15 +1,14 @@
 -- The three axes moved, the front of the vertices is the places of the used ones; the front of the faces is the mesh; and there are no more of either than before. Assumes nothing.
 use mathlib.Core.Path.{_≡_, refl, sym, ap, _∙_, subst}
-use mathlib.Core.Logic.{_≢_}
 use mathlib.Core.Bool.{Bool}
-use mathlib.Core.List.{List, [], _∷_, _++_}
-use Prim.Native.Nat.{ℕ, zero, suc, _+_, _*_, _/_, _%_, _≤_, _<_, min}
+use mathlib.Core.List.{List, [], _∷_}
+use Prim.Native.Nat.{ℕ, zero, suc, _+_, _*_, _/_, _%_, _≤_, _<_}
 use native.Mathlib.Omega.{arith}
-use lib.ListN.{length, getD, take, drop, length-take, take-append-drop, List·getD-append}
+use lib.ListN.{length, getD, take, drop, length-take, take-append-drop}
 use lib.Seq.{getD-take, length-take-le, take-at, ext-getD}
 use lib.Ieee.{Float, nan}
 use Rattle.lists.specs.Lists.{at}
-use Rattle.closed.specs.Lists.{bit, member, In, All, sum, keep}
+use Rattle.closed.specs.Lists.{bit, member, In, keep}
 use Rattle.closed.specs.Faces.{Face, faces, corners}
 use Rattle.closed.specs.Numbering.{used, indexOf, NoRepeat}
 use Rattle.closed.specs.Sums.{sum-le, sum-const}

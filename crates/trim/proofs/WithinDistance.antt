@@ -1,18 +1,18 @@
 -- The passes together are the trim within a distance: the front of the faces is the mesh of the kept faces, the front of the vertices is the places of those that they use, and zeros stand
 -- past both. Assumes nothing.
-use mathlib.Core.Path.{_≡_, refl, sym, ap, _∙_, subst}
+use mathlib.Core.Path.{_≡_, sym, ap, _∙_}
 use mathlib.Core.Logic.{⊎-elim}
 use mathlib.Core.List.{List, _++_, append-nil}
-use Prim.Native.Nat.{ℕ, suc, _-_, _*_, _/_, _≤_, _<_, min}
+use Prim.Native.Nat.{ℕ, _-_, _*_, _/_, _≤_, _<_}
 use native.Mathlib.Omega.{arith}
 use lib.ListN.{length, getD, take, replicate, length-take}
 use lib.Ieee.{Float, binary32, mul}
 use Rattle.lists.specs.Lists.{zero32, zeros32, zerosU, padded}
 use Rattle.lists.specs.Padded.{cleared-padded}
 use Rattle.closed.specs.Faces.{Face, faces, corners}
-use Rattle.closed.specs.Numbering.{used, mesh, slot, NoRepeat}
+use Rattle.closed.specs.Numbering.{used, mesh, slot}
 use Rattle.closed.specs.Renumber.{in-or-not, in-at, indexOf-lt, slot-in, slot-out}
-use Rattle.closed.specs.Mesh.{mesh-length, used-no-repeat}
+use Rattle.closed.specs.Mesh.{mesh-length}
 use Rattle.closed.specs.Turning.{length-corners, length-faces, corners-faces}
 use Rattle.points.specs.declared.point.Point.{Point}
 use Rattle.surface.specs.Surface.{vertexCount, faceCount, Meshed}

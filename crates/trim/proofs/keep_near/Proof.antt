@@ -1,16 +1,14 @@
 -- `trim::keep_near` meets its contract: the kept faces stand at the front and name vertices, each of which has an entry in the table. Assumes nothing.
 use mathlib.Core.Path.{_≡_, sym, ap, _∙_, subst}
 use mathlib.Core.List.{List}
-use Prim.Native.Nat.{ℕ, _*_, _<_}
 use native.Mathlib.Omega.{arith}
 use denote.Ref.{now}
-use lib.ListN.{length, getD}
+use lib.ListN.{length}
 use lib.Ieee.{binary32, mul}
 use Rattle.lists.specs.Lists.{zerosU}
 use Rattle.closed.specs.Faces.{Face, faces}
 use Rattle.closed.specs.Numbering.{used, mesh}
 use Rattle.points.specs.Points.{usables}
-use Rattle.surface.specs.Surface.{faceCount}
 use Rattle.trim.specs.Trim.{near, keptFaces}
 use Rattle.trim.specs.Passes.{Slots}
 use Rattle.trim.proofs.Places.{kept-few, front-below}

@@ -1,13 +1,10 @@
 -- `trim::trim_within` meets its contract: the passes together are the trim within a distance (`trimmed-within`). Assumes nothing.
-use mathlib.Core.Path.{_≡_, sym, ap, _∙_}
-use Prim.Native.Nat.{ℕ, _*_, _≤_, _<_}
+use mathlib.Core.Path.{_≡_}
 use native.Mathlib.Omega.{arith}
 use denote.Ref.{now}
-use lib.ListN.{length, getD}
-use Rattle.closed.specs.Numbering.{used}
+use lib.ListN.{length}
 use Rattle.closed.specs.Mesh.{used-no-repeat}
 use Rattle.points.specs.Points.{usables}
-use Rattle.surface.specs.Surface.{vertexCount, faceCount}
 use Rattle.trim.specs.Passes.{Even}
 use Rattle.trim.proofs.WithinDistance.{slots-le, within-below, within-vertices, within-faces, trimmed-within}
 use borrow.Author.Needs.{needs}

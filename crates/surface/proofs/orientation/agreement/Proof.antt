@@ -1,10 +1,9 @@
 -- `surface::orientation::agreement` meets its contract: what is left from face t gives what all faces give (`Asking`). Assumes nothing.
-use mathlib.Core.Path.{_≡_, sym, ap, _∙_}
-use mathlib.Core.List.{List, foldl}
-use Prim.Native.Nat.{ℕ, _-_, _<_}
+use mathlib.Core.Path.{sym, ap, _∙_}
+use mathlib.Core.List.{foldl}
+use Prim.Native.Nat.{ℕ, _-_}
 use native.Mathlib.Omega.{arith}
 use borrow.Author.Needs.{needs}
-use lib.ListN.{length}
 use lib.Ieee.{binary64, add}
 use denote.Ref.{now}
 use Rattle.closed.specs.Faces as Flat

@@ -1,6 +1,5 @@
 -- `surface::orient` meets its contract: it turns all faces where the sum is below zero, and else none. Assumes nothing.
-use mathlib.Core.Path.{_≡_, sym, ap, _∙_}
-use denote.Ref.{now}
+use mathlib.Core.Path.{sym}
 use Rattle.surface.specs.Surface.{orientedFaces}
 use Rattle.surface.specs.FlatFaces.{meshed-corners}
 use borrow.Author.Needs.{needs}

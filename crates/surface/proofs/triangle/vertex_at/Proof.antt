@@ -1,5 +1,4 @@
 -- `surface::triangle::vertex_at` meets its contract: a vertex's number is its place. Assumes nothing.
-use mathlib.Core.Path.{_∙_, ap}
 use borrow.Author.Needs.{needs}
 use Rattle.surface.proofs.triangle.vertex_at.Statement.{statement}
 use Rattle.surface.proofs.triangle.vertex_at.Tie as tie

@@ -1,5 +1,4 @@
 -- `trim::keeping::is_near` meets its contract: the query place is the face's centre. Assumes nothing.
-use mathlib.Core.Path.{_∙_, ap}
 use borrow.Author.Needs.{needs}
 use Rattle.trim.proofs.keeping.is_near.Statement.{statement}
 use Rattle.trim.proofs.keeping.is_near.Tie as tie

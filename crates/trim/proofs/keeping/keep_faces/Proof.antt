@@ -1,16 +1,13 @@
 -- `trim::keeping::keep_faces` meets its contract: before face t the front holds the near ones of the first t faces (`Kept`). Assumes nothing.
-use mathlib.Core.Path.{_≡_, refl, sym, ap, _∙_}
+use mathlib.Core.Path.{sym, ap, _∙_}
 use mathlib.Core.Logic.{⊎-elim}
-use mathlib.Core.Bool.{Bool}
 use mathlib.Core.List.{List}
 use Prim.Native.Nat.{ℕ, _+_, _-_, _*_, _<_}
 use native.Mathlib.Omega.{arith}
-use borrow.Author.Needs.{needs}
 use denote.Ref.{now}
 use lib.ListN.{length}
 use Rattle.closed.specs.Faces as Flat
 use Rattle.points.specs.Points.{usables}
-use Rattle.surface.specs.Surface.{faceCount, cornersAt, putFace}
 use Rattle.surface.specs.FlatFaces.{meshed-face}
 use Rattle.trim.specs.Trim.{near}
 use Rattle.trim.proofs.KeptFront.{Kept, kept-none, kept-corners, kept-dropped, kept-more, kept-done}

@@ -1,13 +1,10 @@
 -- `trim::moving::scatter` meets its contract: before vertex w the vertices before it have their coordinates. Assumes nothing.
-use mathlib.Core.Path.{_≡_, refl, sym, ap, _∙_}
-use mathlib.Core.List.{List}
-use Prim.Native.Nat.{ℕ, _+_, _-_, _*_, _<_, _≤_}
+use mathlib.Core.Path.{_≡_, refl, ap, _∙_}
+use Prim.Native.Nat.{_-_, _≤_}
 use native.Mathlib.Numerals.{add-one}
 use native.Mathlib.Omega.{arith}
-use borrow.Author.Needs.{needs}
 use denote.Ref.{now}
-use lib.ListN.{length, getD, set}
-use lib.Ieee.{Float}
+use lib.ListN.{length}
 use Rattle.trim.specs.Passes.{lines, scattered}
 use Rattle.trim.proofs.OneAxis.{length-scattered}
 use Rattle.trim.proofs.moving.scatter.Statement.{statement}

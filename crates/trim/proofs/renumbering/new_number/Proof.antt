@@ -1,6 +1,4 @@
 -- `trim::renumbering::new_number` meets its contract: the entry of a noted vertex is not 0. Assumes nothing.
-use native.Mathlib.Omega.{arith}
-use mathlib.Core.Path.{ap}
 use borrow.Author.Needs.{needs}
 use Rattle.trim.proofs.renumbering.new_number.Statement.{statement}
 use Rattle.trim.proofs.renumbering.new_number.Tie as tie

@@ -1,6 +1,6 @@
 -- `trim::renumbering::note_face` meets its contract: the three corners are noted in order. Assumes nothing.
 use native.Mathlib.Omega.{arith}
-use Rattle.closed.specs.Numbering.{note, grow}
+use Rattle.closed.specs.Numbering.{grow}
 use borrow.Author.Needs.{needs}
 use Rattle.trim.proofs.renumbering.note_face.Statement.{statement}
 use Rattle.trim.proofs.renumbering.note_face.Tie as tie

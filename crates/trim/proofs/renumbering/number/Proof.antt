@@ -1,13 +1,9 @@
 -- `trim::renumbering::number` meets its contract: before face t the table holds what the first t faces use, and they are renumbered (`Numbering`). Assumes nothing.
-use mathlib.Core.Path.{_≡_, refl, sym, ap, _∙_}
-use mathlib.Core.List.{List}
-use Prim.Native.Nat.{ℕ, _+_, _-_, _*_, _^_, _<_}
+use mathlib.Core.Path.{_≡_, refl, _∙_}
+use Prim.Native.Nat.{_+_, _-_, _*_, _<_}
 use native.Mathlib.Omega.{arith}
-use borrow.Author.Needs.{needs}
-use denote.Ref.{now}
-use lib.ListN.{length, getD}
-use Rattle.closed.specs.Faces as Flat
-use Rattle.surface.specs.Surface.{Corners, cornersAt}
+use lib.ListN.{length}
+use Rattle.surface.specs.Surface.{Corners}
 use Rattle.trim.specs.Passes.{Noted}
 use Rattle.trim.proofs.FirstUse.{Numbering, numbering-none, numbering-corners, numbering-noted, numbering-more, numbering-done}
 use Rattle.trim.proofs.renumbering.number.Statement.{statement}

@@ -1,5 +1,4 @@
 -- `trim::renumbering::renamed` meets its contract, a corner at a time. Assumes nothing.
-use native.Mathlib.Omega.{arith}
 use borrow.Author.Needs.{needs}
 use Rattle.trim.proofs.renumbering.renamed.Statement.{statement}
 use Rattle.trim.proofs.renumbering.renamed.Tie as tie
