@@ -3,7 +3,7 @@
 use mathlib.Core.Path.{_≡_, refl, ap, _∙_}
 use mathlib.Core.Bool.{Bool, true, false, cond, _||_}
 use mathlib.Core.List.{List}
-use Prim.Native.Nat.{ℕ, zero, suc, _+_, _-_, _*_, _^_, _<_, _≤_, min}
+use Prim.Native.Nat.{ℕ, zero, suc, _+_, _-_, _^_, _<_, min}
 use native.Mathlib.Nat.{add-zero}
 use native.Mathlib.Omega.{arith}
 use lib.ListN.{getD-replicate}
@@ -14,7 +14,7 @@ use Rattle.numbers.specs.Arithmetic.{narrowed}
 use Rattle.closed.specs.Grid.{node, Outer}
 use Rattle.closed.specs.Crossings.{node-lt}
 use Rattle.grid.specs.declared.Grid.{Grid}
-use Rattle.grid.specs.Grid.{gridOf, atEnd, onBoundary, boundaryNode, coordsOf, sampled, worldOf}
+use Rattle.grid.specs.Grid.{gridOf, atEnd, onBoundary, coordsOf, sampled, worldOf}
 use Rattle.grid.specs.Rows.{first-end, last-end, boundary-node}
 use Rattle.points.specs.declared.point.Point.{Point}
 use Rattle.field.specs.Field.{rightSide}
@@ -23,7 +23,7 @@ use Rattle.solver.specs.Solver.{allNodes}
 use Rattle.solver.specs.Boundary.{BoundaryIs, Alike}
 use Rattle.solver.specs.BoundaryAlike.{conjugate-alike}
 use Rattle.levels.specs.declared.Problem.{Problem}
-use Rattle.levels.specs.Levels.{coarsest, gridAt, nodesAt, startAt, startFrom, levelFrom, risen, solution}
+use Rattle.levels.specs.Levels.{coarsest, gridAt, startAt, startFrom, levelFrom, risen, solution}
 
 -- ---- a level's start is +0.0 there
 

@@ -1,6 +1,5 @@
 -- `levels::level` meets its contract: what its two stages say. Assumes nothing.
 use mathlib.Core.Path.{_∙_}
-use denote.Ref.{now}
 use Rattle.levels.specs.Levels.{levelFrom}
 use borrow.Author.Needs.{needs}
 use Rattle.levels.proofs.rising.level.Statement.{statement}

@@ -1,6 +1,5 @@
 -- `levels::start_at` meets its contract: the position of the node is in the cube, and its place there is what is sampled. Assumes nothing.
 use mathlib.Core.Path.{sym, _∙_}
-use denote.Ref.{now}
 use Rattle.grid.specs.Numbering.{coords-below}
 use Rattle.levels.specs.Levels.{startAt}
 use borrow.Author.Needs.{needs}

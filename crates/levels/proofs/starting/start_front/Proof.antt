@@ -1,5 +1,5 @@
 -- `levels::start_front` meets its contract: the level before is copied out of x, and sampled into it. Assumes nothing.
-use mathlib.Core.Path.{refl, sym, ap, _∙_}
+use mathlib.Core.Path.{sym, ap, _∙_}
 use Prim.Native.Nat.{ℕ}
 use mathlib.Core.List.{_++_}
 use native.Mathlib.Omega.{arith}
