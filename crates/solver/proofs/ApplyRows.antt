@@ -15,7 +15,7 @@ use Rattle.lists.specs.Tabulate.{tabulate-ext, tabulate-same}
 use Rattle.lists.specs.Fill.{Filled, filled-none, filled-done}
 use Rattle.lists.specs.Part.{length-part, filled-part}
 use Rattle.grid.specs.Grid.{Sides, atEnd, boundaryNode, boundaryRow}
-use Rattle.grid.specs.Rows.{row-of, row-next, row-end, last-end, boundary-row}
+use Rattle.grid.specs.Rows.{row-of, row-next, last-end, boundary-row}
 use Rattle.solver.specs.Solver.{stencilAt, applyAt}
 use Rattle.solver.specs.Inner.{innerRowAt}
 

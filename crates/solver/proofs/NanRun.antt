@@ -4,10 +4,10 @@ use mathlib.Core.Path.{_≡_, refl, ap, _∙_}
 use mathlib.Core.Bool.{Bool, false, _||_}
 use mathlib.Core.List.{List}
 use Prim.Native.Nat.{ℕ, zero, suc, _<_}
-use lib.Ieee.{Float, nan, binary32, binary64, mul, div, le}
+use lib.Ieee.{Float, nan, binary32, binary64, div, le}
 use Rattle.lists.specs.Lists.{tabulate, at}
 use Rattle.lists.specs.Tabulate.{at-tabulate, tabulate-ext}
-use Rattle.numbers.specs.Arithmetic.{rooted, narrowed}
+use Rattle.numbers.specs.Arithmetic.{narrowed}
 use Rattle.grid.specs.declared.Grid.{Grid}
 use Rattle.solver.specs.Solver.{allNodes, applied, dotted, zero64, plusAt, minusAt, State, papOf, stops, alphaOf, next, steps}
 use Rattle.solver.specs.NanThrough.{add-nan, sub-nan, nan-mul, nan-div, nan-narrowed, nan-rooted, nan-le}

@@ -1,6 +1,6 @@
 -- The turns of the loop are the steps of the definition: what a turn's parts say, put together as a stop, a step or the end of a NaN run; the steps that are left; the whole.
 -- Assumes nothing.
-use mathlib.Core.Path.{_≡_, refl, sym, ap, _∙_}
+use mathlib.Core.Path.{_≡_, sym, ap, _∙_}
 use mathlib.Core.Bool.{Bool, true, false, _||_, cond}
 use mathlib.Core.List.{List}
 use Prim.Native.Nat.{ℕ, suc, _+_, _-_, _<_}
@@ -13,7 +13,7 @@ use Rattle.grid.specs.declared.Grid.{Grid}
 use Rattle.grid.specs.Grid.{Sides}
 use Rattle.solver.specs.Solver.{allNodes, applied, dotted, zero64, plusAt, minusAt, lessAt, State, started, papOf, stops, alphaOf, next, steps, normOf, conjugate}
 use Rattle.solver.specs.Inner.{Updated}
-use Rattle.solver.proofs.NanRun.{nanState, nan-next, nan-steps}
+use Rattle.solver.proofs.NanRun.{nan-next, nan-steps}
 
 -- ---- lists of one element a node, and that there is a node
 

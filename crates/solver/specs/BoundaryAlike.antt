@@ -4,18 +4,17 @@ use mathlib.Core.Path.{_≡_, refl, ap, _∙_}
 use mathlib.Core.Bool.{Bool, true, false, cond}
 use mathlib.Core.List.{List}
 use mathlib.Core.Logic.{_⊎_, inl, inr, ⊎-elim}
-use Prim.Native.Nat.{ℕ, zero, suc, _*_, _<_}
+use Prim.Native.Nat.{ℕ, zero, suc, _*_}
 use native.Mathlib.Nat.{mul-zero}
 use native.Mathlib.Omega.{arith}
 use lib.IntN.{pos}
 use lib.Ieee.{Float, nan, inf, fin, binary32, binary64, ofBits, unlike, up, down, round, neg, sum, add, sub, mul, div, eq}
 use lib.Ieee.Fits.{down-pos}
-use Rattle.lists.specs.Lists.{tabulate, at, zero32}
+use Rattle.lists.specs.Lists.{tabulate, zero32}
 use Rattle.lists.specs.Tabulate.{at-tabulate}
 use Rattle.numbers.specs.Arithmetic.{narrowed}
 use Rattle.numbers.specs.Symmetry.{round-zero}
 use Rattle.grid.specs.declared.Grid.{Grid}
-use Rattle.grid.specs.Grid.{boundaryNode}
 use Rattle.solver.specs.Solver.{allNodes, applyAt, applied, stencilAt, dotted, zero64, plusAt, minusAt, lessAt, State, started, stops, alphaOf, next, steps, normOf, conjugate}
 use Rattle.solver.specs.NanThrough.{nan-add, add-nan, mul-nan, nan-sub, sub-nan}
 use Rattle.solver.specs.Boundary.{BoundaryIs, ZeroOrNan, Alike}

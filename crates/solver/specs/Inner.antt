@@ -1,4 +1,5 @@
--- Words for the contracts of this crate's inner functions. No caller sees them, and no definition rests on them.
+-- Words for this crate's contracts: how long the slices of a turn are, one element of a row, what a step and a turn leave. Only `Sized` stands in a contract that callers see, and
+-- no definition rests on any of them. Assumes nothing.
 use mathlib.Core.Path.{_≡_}
 use mathlib.Core.Bool.{false, cond}
 use mathlib.Core.List.{List}

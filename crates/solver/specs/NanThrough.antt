@@ -1,5 +1,5 @@
 -- A NaN goes through: each operation of which an operand is NaN gives NaN, and no comparison holds of one. By the cases of each definition. Assumes nothing.
-use mathlib.Core.Path.{_≡_, refl, ap, _∙_}
+use mathlib.Core.Path.{_≡_, ap, _∙_}
 use mathlib.Core.Bool.{false}
 use lib.Ieee.{Float, nan, Format, neg, add, sub, mul, div, lt, eq, le}
 use Rattle.numbers.specs.Arithmetic.{rooted, narrowed}

@@ -2,7 +2,6 @@
 ghost use mathlib.Core.Path.{_≡_};
 ghost use lib.ListN.{length};
 ghost use denote.Ref.{now};
-ghost use Rattle.grid.specs.Grid.{Sides};
 ghost use Rattle.solver.specs.Solver.{allNodes, started, steps, conjugate};
 ghost use Rattle.solver.specs.Inner.{Sized, Updated, Turned};
 use crate::laplacian::apply;

@@ -2,7 +2,6 @@
 use mathlib.Core.Path.{_≡_, sym, ap, _∙_}
 use Prim.Native.Nat.{_-_, _≤_}
 use native.Mathlib.Omega.{arith}
-use denote.Ref.{now}
 use Rattle.solver.specs.Solver.{State, steps}
 use Rattle.solver.specs.Inner.{Sized}
 use Rattle.solver.proofs.Steps.{turns-done, turns-on, turns-end}

@@ -1,5 +1,5 @@
 -- `solver::inner_row` meets its contract: after k turns `y` is the row with its first k elements written, k being 1 or more. Assumes nothing.
-use mathlib.Core.Path.{_≡_, refl, _∙_}
+use mathlib.Core.Path.{_≡_, _∙_}
 use Prim.Native.Nat.{_-_, _≤_, _<_}
 use native.Mathlib.Omega.{arith}
 use lib.ListN.{length, length-set}
