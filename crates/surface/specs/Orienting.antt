@@ -1,11 +1,11 @@
 -- Orientation changes no count of faces, no vertex number, no balance and no face's three different corners: it turns all faces or none. By cases. Assumes nothing.
-use mathlib.Core.Path.{_≡_, refl}
+use mathlib.Core.Path.{_≡_, refl, ap}
 use mathlib.Core.Bool.{Bool, true, false, cond}
 use mathlib.Core.List.{List, [], _∷_, map}
 use Prim.Native.Nat.{ℕ, suc, _<_}
 use native.Mathlib.Omega.{arith}
 use lib.ListN.{length, getD, length-map}
-use lib.Ieee.{Float, binary64, ofBits, lt}
+use lib.Ieee.{Float, nan, binary64, ofBits, lt}
 use Rattle.closed.specs.Lists.{All}
 use Rattle.closed.specs.Faces.{Face, face, Balanced, Apart, turn, corners, faces}
 use Rattle.closed.specs.Counting.{all-at}
@@ -28,6 +28,11 @@ module _ (g : Grid) (values vertices : List Float) (fs : List Face) where
       go : (b : Bool) → P (cond b (map turn fs) fs)
       go true = there
       go false = here
+
+  -- a NaN sum turns nothing
+  pub nan-turns-nothing : agreementOf g values vertices fs ≡ nan → orientedFaces g values vertices fs ≡ fs
+  unfolding orientedFaces lt
+  nan-turns-nothing e = ap (λ (sum : Float). cond (lt sum (ofBits binary64 0)) (map turn fs) fs) e
 
   pub oriented-balanced : Balanced fs → Balanced (orientedFaces g values vertices fs)
   oriented-balanced h = oriented-has Balanced h (balanced-turn fs h)

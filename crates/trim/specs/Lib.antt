@@ -2,3 +2,4 @@
 pub mod Trim
 pub mod Passes
 pub mod TrimmedMesh
+pub mod Distances
