@@ -2,3 +2,4 @@
 pub mod Surface
 pub mod FlatFaces
 pub mod Orienting
+pub mod Examples

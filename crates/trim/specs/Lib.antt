@@ -3,3 +3,4 @@ pub mod Trim
 pub mod Passes
 pub mod TrimmedMesh
 pub mod Distances
+pub mod Examples

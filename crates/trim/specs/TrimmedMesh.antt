@@ -1,8 +1,8 @@
 -- The trimmed mesh is a mesh: three numbers a vertex and a face, each of the latter the number of a vertex, and three different corners where the faces had them. Kept faces are faces, and the
 -- numbering at first use is one to one (Mesh of the crate `closed`). Nothing is said of balance: a trimmed mesh may be open. Assumes nothing.
-use mathlib.Core.Path.{_≡_, refl, sym, ap, _∙_, subst}
+use mathlib.Core.Path.{_≡_, refl, sym, subst}
 use mathlib.Core.List.{List, [], _∷_}
-use Prim.Native.Nat.{ℕ, _*_, _<_}
+use Prim.Native.Nat.{ℕ, _*_}
 use native.Mathlib.Omega.{arith}
 use lib.ListN.{length, getD}
 use lib.Ieee.{Float, binary32, mul}
@@ -14,7 +14,7 @@ use Rattle.closed.specs.Renumber.{in-at}
 use Rattle.closed.specs.Mesh.{mesh-apart, corner-lt}
 use Rattle.closed.specs.Turning.{length-corners}
 use Rattle.points.specs.declared.point.Point.{Point}
-use Rattle.surface.specs.Surface.{vertexCount, Meshed}
+use Rattle.surface.specs.Surface.{Meshed}
 use Rattle.surface.specs.FlatFaces.{meshed-corners}
 use Rattle.settings.specs.declared.Trimming.{Trimming}
 use Rattle.settings.specs.declared.Trimming.the-variants.{Off, Within}
