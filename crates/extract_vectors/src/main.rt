@@ -1,12 +1,7 @@
 // Replays a list of grids through the two passes of `extract`, and prints what differs and a count. Each grid of `stdin` has its node counts, origin, step,
 // level and values, then its mesh: V and F, three patterns a vertex, three numbers a face. The list was written by a Rust program that runs the Rust's own
-<<<<<<< HEAD
-// `extract_shared`; NaN, infinities and values equal to the level are among the values, and some grids have unequal sides. The last two grids were added by
-// 01's rule: P12, and 3×3×3 with only the centre below. The slices hold rubbish before each call.
-=======
 // `extract_shared`, with each NaN rewritten as 01 stores it; NaN, infinities and values equal to the level are among the values, and some grids have unequal
 // sides. The last two grids were added by 01's rule: P12, and 3×3×3 with only the centre below. The slices hold rubbish before each call.
->>>>>>> vectors
 mod words;
 
 ghost use mathlib.Core.Path.{_≡_};
@@ -19,10 +14,6 @@ use extract::Totals;
 use grid::Lattice;
 use libc::STDIN_FILENO;
 use libc::STDOUT_FILENO;
-<<<<<<< HEAD
-use words::Header;
-=======
->>>>>>> vectors
 use words::read_decimal;
 use words::read_header;
 use words::read_hex;
@@ -31,11 +22,7 @@ use words::skip_word;
 
 // ---- what differs
 
-<<<<<<< HEAD
-// Where the next word is, and how many numbers differed.
-=======
 // Where the next word is, and how many numbers, or grids, differed.
->>>>>>> vectors
 struct Compared {
     next: usize,
     differ: u64,
