@@ -14,7 +14,7 @@ use Rattle.points.specs.declared.point.Point.{Point}
 use Rattle.solver.specs.Solver.{allNodes}
 use Rattle.levels.specs.declared.Problem.{Problem}
 use Rattle.levels.specs.Levels.{coarsest, gridAt, nodesAt, startFrom, levelFrom, risen, solution}
-use Rattle.levels.specs.Inner.{Sized}
+use Rattle.levels.specs.Slices.{Sized}
 use Rattle.levels.proofs.Fronts.{zeros-front}
 
 pub nodes-is : (t : Problem) (depth : ℕ) {g : Grid} → g ≡ gridAt t depth → allNodes g ≡ nodesAt depth

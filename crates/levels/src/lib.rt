@@ -6,7 +6,7 @@ ghost use lib.ListN.{length};
 ghost use Rattle.grid.specs.Grid.{Sides};
 ghost use Rattle.points.specs.Points.{usables};
 ghost use Rattle.levels.specs.Levels.{gridAt, nodesAt, solution};
-ghost use Rattle.levels.specs.Inner.{Sized, Zeros, Left};
+ghost use Rattle.levels.specs.Slices.{Sized, Zeros, Left};
 
 mod rising;
 mod starting;

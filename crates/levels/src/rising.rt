@@ -6,7 +6,7 @@ ghost use Rattle.grid.specs.Grid.{Sides};
 ghost use Rattle.points.specs.Points.{usables};
 ghost use Rattle.solver.specs.Solver.{allNodes};
 ghost use Rattle.levels.specs.Levels.{coarsest, gridAt, nodesAt, startFrom, levelFrom, risen, solution};
-ghost use Rattle.levels.specs.Inner.{Sized};
+ghost use Rattle.levels.specs.Slices.{Sized};
 use crate::Problem;
 use crate::starting::start_front;
 use grid::Grid;

@@ -1,4 +1,4 @@
--- Words for the contracts of this crate's functions: how long the slices are, and what they are left with. No definition rests on them.
+-- How long the seven slices of the levels are, and what they are left with: the words of this crate's contracts. No definition of what is right rests on them. Assumes nothing.
 use mathlib.Core.Path.{_≡_}
 use mathlib.Core.List.{List}
 use Prim.Native.Nat.{ℕ}
