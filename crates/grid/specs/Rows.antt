@@ -75,7 +75,7 @@ or-false : (a b : Bool) → a || b ≡ false → (a ≡ false) × (b ≡ false)
 or-false true b e = absurd (true≢false e)
 or-false false b e = (refl, e)
 
--- a node off the boundary is in such a row, and between its ends
+-- a node off the boundary is in a row off it, and between that row's ends
 pub off-boundary : (n q : ℕ) → boundaryNode n q ≡ false → (boundaryRow n (q / n) ≡ false) × (atEnd n (q % n) ≡ false)
 off-boundary n q e = or-false (boundaryRow n (q / n)) (atEnd n (q % n)) e
 

@@ -2,7 +2,7 @@
 ghost use mathlib.Core.Path.{_≡_};
 ghost use Prim.Native.Nat.{_*_, _<_, _≤_};
 ghost use lib.ListN.{getD};
-ghost use Rattle.grid.specs.Grid.{Sides, Counts, Position, gridOf, nodeAt, coordsOf, atEnd, onBoundary, worldOf, latticeOf};
+ghost use Rattle.grid.specs.Grid.{Sides, Counts, Position, gridOf, nodeAt, coordsOf, atEnd, onBoundary, boundaryRow, worldOf, latticeOf};
 use crate::Grid;
 use crate::Lattice;
 use crate::Node;
@@ -73,6 +73,18 @@ impl Grid {
             return true;
         }
         at_end(n, at[2])
+    }
+
+    // Whether all nodes of row i·n+j are on the boundary.
+    pub fn boundary_row(self, row: usize) -> bool
+        requires { ⌜ Sides (self .nodes) ⌝ }
+        ensures { λ r. ⌜ r ≡ boundaryRow (self .nodes) row ⌝ }
+    {
+        let n = self.nodes;
+        if at_end(n, row / n) {
+            return true;
+        }
+        at_end(n, row % n)
     }
 
     // The place of a position: origin + count·step along each axis.

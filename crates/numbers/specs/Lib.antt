@@ -28,7 +28,6 @@ pub mod RootPoints
 pub mod NarrowKeeps
 pub mod ClosestAdd
 pub mod NarrowPattern
-pub mod NarrowPoints
 pub mod RoundNearest
 pub mod RoundOverflow
 pub mod NarrowNearest

@@ -7,6 +7,7 @@ use lib.Dec.{T}
 use lib.Ieee.{Float, Format, nan, inf, fin, binary32, binary64, div, ne, isNan, nanBits, ofBits, ones, hid, top}
 use lib.Ieee.Compare.{differs-from-itself}
 use lib.Ieee.Bits.{nanBits-is, nanBits-above}
+use Rattle.numbers.specs.Comparing.{ne-itself}
 
 -- ---- the test
 
@@ -16,22 +17,11 @@ is-nan nan t = refl
 is-nan (inf s) t = absurd t
 is-nan (fin s m e) t = absurd t
 
-is-false : (b : Bool) → (T b → ⊥) → b ≡ false
-is-false true h = absurd (h tt)
-is-false false h = refl
-
-pub self-ne : (x : Float) → ne x x ≡ isNan x
-unfolding ne isNan
-self-ne nan = refl
-self-ne (inf true) = refl
-self-ne (inf false) = refl
-self-ne (fin s m e) = is-false (ne (fin s m e) (fin s m e)) (λ t. subst (λ (y : Float). T (isNan y)) (sym (differs-from-itself (fin s m e) t)) tt)
-
 pub differs : (x : Float) → ne x x ≡ true → x ≡ nan
 differs x e = differs-from-itself x (subst T (sym e) tt)
 
 pub same : (x : Float) → ne x x ≡ false → T (not (isNan x))
-same x e = subst (λ (b : Bool). T (not b)) (sym (sym (self-ne x) ∙ e)) tt
+same x e = subst (λ (b : Bool). T (not b)) (sym (sym (ne-itself x) ∙ e)) tt
 
 -- ---- how code writes one
 

@@ -1,13 +1,13 @@
--- What narrowing keeps: a value that an f32 holds stays as it is (`narrowed-same`), the sign goes through (`narrowed-neg`), only a NaN gives a NaN
--- (`narrowed-nan`), and the result is always a value of binary32 (`narrowed-fits`). Behind the first stands `round-same-value`: in either format,
+-- What narrowing keeps: a value that an f32 holds stays as it is (`narrowed-same`), only a NaN gives a NaN (`narrowed-nan`), the sign goes through
+-- (`narrowed-neg` of Symmetry), and the result is always a value of binary32 (`narrowed-fits`). Behind the first stands `round-same-value`: in either format,
 -- rounding a value of the format gives it back. Assumes nothing.
 use mathlib.Core.Path.{_≡_, refl, sym, ap, _∙_, subst}
-use mathlib.Core.Bool.{Bool, true, false, not, cond}
+use mathlib.Core.Bool.{Bool, true, false, cond}
 use Prim.Native.Nat.{ℕ, zero, suc, _+_, _*_, _^_, _<_}
 use lib.IntN.{ℤ}
 use lib.Dec.{T, ltb}
 use lib.Pow.{pow-pos}
-use lib.Ieee.{Float, nan, inf, fin, Format, binary32, prec, emax, low, up, down, odd, units, round, neg, fits, isNan}
+use lib.Ieee.{Float, nan, inf, fin, Format, binary32, prec, emax, low, up, down, odd, units, round, fits, isNan}
 use lib.Ieee.Fits.{down-pos, nan-fits, inf-fits, round-is, round-fits}
 use lib.Ieee.Exact.{HasValue, round-exact}
 use lib.Ieee.Scale.{round-same}
@@ -47,30 +47,6 @@ unfolding narrowed
 narrowed-same nan F = refl
 narrowed-same (inf s) F = refl
 narrowed-same (fin s m e) F = round-same-value binary32 s m e F
-
--- ---- the sign, in either format
-
-neg-odd : (d : ℕ) (s : Bool) (q k l : ℕ) → neg (odd d s q k l) ≡ odd d (not s) q k l
-unfolding neg odd
-neg-odd d s zero k l = refl
-neg-odd d s (suc q) k l = refl
-
-neg-units : (f : Format) (s : Bool) (q k : ℕ) → neg (units f s q k) ≡ units f (not s) q k
-unfolding units neg
-neg-units f s q k = go (ltb (q * 2 ^ k) (2 ^ (low f + suc (emax f))))
-  where
-    go : (b : Bool) → neg (cond b (odd (suc (prec f)) s q k (low f)) (inf s)) ≡ cond b (odd (suc (prec f)) (not s) q k (low f)) (inf (not s))
-    go true = neg-odd (suc (prec f)) s q k (low f)
-    go false = refl
-
-pub round-neg : (f : Format) (s : Bool) (num den : ℕ) → neg (round f s num den) ≡ round f (not s) num den
-round-neg f s num den = ap neg (round-is f s num den) ∙ neg-units f s _ _ ∙ sym (round-is f (not s) num den)
-
-pub narrowed-neg : (x : Float) → narrowed (neg x) ≡ neg (narrowed x)
-unfolding narrowed neg
-narrowed-neg nan = refl
-narrowed-neg (inf s) = refl
-narrowed-neg (fin s m e) = sym (round-neg binary32 s (m * up e) (down e))
 
 -- ---- NaN
 

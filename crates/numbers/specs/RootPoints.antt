@@ -1,13 +1,7 @@
--- Document 01's points P1 and P2, and the special cases of the root, by computation.
+-- The special cases of the root, by computation. (The marked cases are in the crate `marked`.)
 use mathlib.Core.Path.{_≡_, refl}
 use lib.Ieee.{nan, binary32, binary64, ofBits, toBits}
 use Rattle.numbers.specs.Arithmetic.{rooted}
-
-pub points :
-    (rooted binary32 (ofBits binary32 0x40800000) ≡ ofBits binary32 0x40000000)  -- P1: the root of 4 is 2
-    × (toBits binary64 (rooted binary64 (ofBits binary64 0x4000000000000000)) ≡ 0x3FF6A09E667F3BCD)  -- P2: the root of 2
-unfolding rooted ofBits toBits
-points = (refl, refl)
 
 pub special :
     (toBits binary64 (rooted binary64 (ofBits binary64 1)) ≡ 0x1E60000000000000)  -- the smallest subnormal, 2^-1074, gives 2^-537

@@ -1,12 +1,12 @@
 -- The roots of sums of squares stand in the squares' order, or are one value: `roots-agree`. So a search may compare squares and take roots at its end.
 -- By `rooted-mono`, and equal roots are one value since the format holds them. Assumes nothing.
-use mathlib.Core.Path.{_≡_, refl, sym, ap, _∙_, subst}
+use mathlib.Core.Path.{_≡_, refl, _∙_}
 use mathlib.Core.Logic.{_⊎_, inl, inr}
 use mathlib.Core.Bool.{Bool, true, false, true≢false}
-use Prim.Native.Nat.{ℕ, zero, suc, _<_}
+use Prim.Native.Nat.{ℕ, zero, suc}
 use native.Mathlib.Omega.{arith}
 use lib.Dec.{T, lt→ltb}
-use lib.Ieee.{Float, nan, inf, fin, Format, lt, eq, le, fits, isNan}
+use lib.Ieee.{Float, nan, inf, fin, Format, lt, eq, fits, isNan}
 use lib.Ieee.Bits.{is-true}
 use lib.Ieee.Exact.{HasValue}
 use lib.Ieee.Fits.{nan-fits, inf-fits}

@@ -3,7 +3,7 @@
 use mathlib.Core.Path.{_≡_, refl, sym, ap, _∙_, subst}
 use mathlib.Core.Logic.{_⊎_, inl, inr}
 use mathlib.Core.Bool.{Bool, true, false, cond, not, _&&_, _||_, Bool·beq, true≢false}
-use Prim.Native.Nat.{ℕ, zero, suc, _+_, _-_, _*_, _/_, _^_, _≤_, _<_}
+use Prim.Native.Nat.{ℕ, _+_, _-_, _*_, _/_, _^_, _≤_}
 use native.Mathlib.Nat.{zero-mul, mul-right-comm, le-of-lt, le-of-eq}
 use native.Mathlib.Omega.{arith}
 use borrow.Author.Tests.{ltb-false, le-ltb}
@@ -14,6 +14,7 @@ use lib.Ieee.Bits.{ofBits-toBits}
 use lib.Ieee.Fits.{round-is, down-pos, and-l}
 use lib.Ieee.Nearest.{div-same}
 use lib.Ieee.Order.{drop, kept, le-of-values}
+use lib.Ieee.Positive.{through}
 use lib.Ieee.Scale.{finite}
 use Rattle.numbers.specs.RootOrder.{Plain, infinite, finite as whole, units-plain}
 use Rattle.numbers.specs.Symmetry.{round-neg, isNan-neg}
@@ -148,6 +149,22 @@ le-not (inf false) (fin false n d) far some t = absurd t
 le-not (fin false m e) nan some none t = absurd t
 le-not (fin false m e) (inf false) some far t = refl
 le-not (fin false m e) (fin false n d) some some t = le-ltb (n * up d * down e) (m * up e * down d) (crossed (m * up e * down d) (n * up d * down e) t)
+
+pub le-trans : (x y z : Float) → Square x → Square y → Square z → T (le x y) → T (le y z) → T (le x z)
+le-trans nan y z none q s a b = unfold le in absurd a
+le-trans (inf false) nan z far none s a b = unfold le in absurd a
+le-trans (inf false) (inf false) z far far s a b = b
+le-trans (inf false) (fin false n d) z far some s a b = unfold le in absurd a
+le-trans (fin false m e) nan z some none s a b = unfold le in absurd a
+le-trans (fin false m e) (inf false) nan some far none a b = unfold le in absurd b
+le-trans (fin false m e) (inf false) (inf false) some far far a b = unfold le in tt
+le-trans (fin false m e) (inf false) (fin false k g) some far some a b = unfold le in absurd b
+le-trans (fin false m e) (fin false n d) nan some some none a b = unfold le in absurd b
+le-trans (fin false m e) (fin false n d) (inf false) some some far a b = unfold le in tt
+le-trans (fin false m e) (fin false n d) (fin false k g) some some some a b =
+    le-of-values (fin false m e) (fin false k g) (m * up e) (down e) (k * up g) (down g) (down-pos e) (down-pos g) (refl, refl) (refl, refl)
+    (through (m * up e) (n * up d) (k * up g) (down e) (down d) (down g) (down-pos d)
+    (crossed (m * up e * down d) (n * up d * down e) (unfold le in a)) (crossed (n * up d * down g) (k * up g * down d) (unfold le in b)))
 
 pub not-negative : (x : Float) → Square x → isNan x ≡ false → T (le (fin false 0 (pos 0)) x)
 not-negative x q r = not-below x (fin false 0 (pos 0)) q some r (unfold isNan in refl) (above-zero x q)

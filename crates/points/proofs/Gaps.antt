@@ -18,7 +18,7 @@ use Rattle.points.specs.Points.{given, pointAt, usableOf, usableTo, usab
 use Rattle.points.specs.Search.{inserted, sorted}
 use Rattle.points.specs.Spacing.{everyFrom, gapAt, listed, gapsAmong, gapsBy, medianOf}
 use Rattle.points.specs.Inner.{putGap, sizeOf, gapBy}
-use Rattle.points.specs.UsableLoop.{used, skipped, usable-none, count-le}
+use Rattle.points.specs.UsableLoop.{used, skipped, usable-none}
 
 -- ---- one point more
 

@@ -4,7 +4,7 @@ use mathlib.Core.Path.{_≡_, refl, sym, ap, _∙_}
 use mathlib.Core.Logic.{_⊎_, inl, inr}
 use mathlib.Core.Bool.{Bool, true, false, cond, not, _&&_, _||_, true≢false, false≢true}
 use mathlib.Core.List.{List, [], _∷_, map, foldl}
-use lib.Ieee.{Float, nan, inf, fin, binary32, sub, mul, add, lt, isNan}
+use lib.Ieee.{Float, nan, inf, fin, binary32, sub, lt, isNan}
 use Rattle.numbers.specs.Arithmetic.{rooted}
 use Rattle.numbers.specs.SumOfSquares.{mul-square, add-square, mul-nan, add-nan, sub-nan}
 use Rattle.numbers.specs.RootSquares.{HeldSquare, root-nan, roots-agree}
@@ -12,7 +12,6 @@ use Rattle.lists.specs.Lists.{at}
 use Rattle.points.specs.declared.point.Point.{Point}
 use Rattle.points.specs.declared.search.Least.{Least}
 use Rattle.points.specs.declared.search.Least.the-variants.{Empty, One, Two}
-use Rattle.points.specs.Points.{squaresOf}
 use Rattle.points.specs.Search.{squareOf, distanceOf, before, inserted, sorted, leastOf, nearestOf}
 use Rattle.points.specs.Inner.{leastWith, openTo, leastMap}
 use Rattle.points.specs.UsableFinite.{Finite, usable-finite, AllUsable}

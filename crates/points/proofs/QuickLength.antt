@@ -1,6 +1,6 @@
 -- A square strictly between 1e-24 and 1e30 has a usable length for its root: `quick`. For the root keeps order, and the roots of those two are 2B8CBCCC exactly and a finite number.
 -- Assumes nothing.
-use mathlib.Core.Path.{_≡_, refl, sym, _∙_, subst}
+use mathlib.Core.Path.{_≡_, refl, subst}
 use mathlib.Core.Bool.{true, false, false≢true}
 use lib.Dec.{T}
 use lib.IntN.{pos}

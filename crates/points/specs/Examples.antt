@@ -1,13 +1,12 @@
 -- Edges of document 01's Points, box and Spacing, by computation: lengths about 1e-12 and the reasons in their order; ranks; doubles; infinite and NaN distances; at most, not less.
 use mathlib.Core.Path.{_≡_, refl}
 use mathlib.Core.Bool.{true, false}
-use mathlib.Core.List.{List, [], _∷_}
+use mathlib.Core.List.{[], _∷_}
 use lib.IntN.{pos}
 use lib.Ieee.{Float, nan, inf, fin, binary32, binary64, ofBits, neg, add, sub, mul, div, lt, le, isNan}
 use Rattle.numbers.specs.Arithmetic.{rooted}
 use Rattle.points.specs.declared.point.Point.{Point}
 use Rattle.points.specs.declared.point.Usability.the-variants.{Usable, PositionNotFinite, LengthNotFinite, NormalTooShort}
-use Rattle.points.specs.declared.bounds.Bounds.{Bounds}
 use Rattle.points.specs.declared.search.Least.the-variants.{Empty, One, Two}
 use Rattle.points.specs.declared.neighbours.Gap.the-variants.{Found, Nothing}
 use Rattle.points.specs.Points.{lengthOf, lengthUsability, placedOf, usabilityOf}

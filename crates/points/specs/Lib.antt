@@ -6,4 +6,5 @@ pub mod Spacing
 pub mod Inner
 pub mod UsableLoop
 pub mod UsableFinite
+pub mod Ascending
 pub mod Examples

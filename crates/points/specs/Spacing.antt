@@ -1,5 +1,5 @@
 -- Document 01, "Spacing", in its order. Definitions only; assumes nothing.
-use mathlib.Core.Bool.{Bool, cond}
+use mathlib.Core.Bool.{cond}
 use mathlib.Core.List.{List, [], _∷_, _++_}
 use Prim.Native.Nat.{ℕ, suc, _/_, _%_, max}
 use lib.Dec.{eqb}

@@ -1,6 +1,6 @@
 -- A usable point's position is finite, and every point of the list of usable points is usable. By the order of the checks. Assumes nothing.
-use mathlib.Core.Path.{_≡_, refl, sym, ap, _∙_}
-use mathlib.Core.Bool.{Bool, true, false, cond, _&&_, true≢false, false≢true}
+use mathlib.Core.Path.{_≡_, refl}
+use mathlib.Core.Bool.{Bool, true, false, cond, _&&_, false≢true}
 use mathlib.Core.List.{List, [], _∷_}
 use Prim.Native.Nat.{ℕ}
 use lib.Ieee.{Float}
@@ -8,7 +8,7 @@ use lib.Ieee.Scale.{finite}
 use Rattle.lists.specs.Lists.{tabulate, at}
 use Rattle.points.specs.declared.point.Point.{Point}
 use Rattle.points.specs.declared.point.Usability.the-variants.{PositionNotFinite}
-use Rattle.points.specs.Points.{pointAt, lengthOf, lengthUsability, placedOf, usabilityOf, isUsable, usableOf, usableAmong, usableTo, usables}
+use Rattle.points.specs.Points.{pointAt, lengthOf, lengthUsability, placedOf, usabilityOf, isUsable, usableOf, usableAmong, usableTo}
 
 -- ---- one point
 

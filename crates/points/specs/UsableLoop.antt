@@ -1,6 +1,6 @@
 -- A loop over the given points that acts on the usable ones: one point more is either used or skipped, so a left fold over `usables` is what such a loop computes.
 -- `Folded` is its whole invariant, with `folded-none`, `folded-used`, `folded-skipped` (or `folded-more`, both in one) and `folded-done`; `count-le` bounds how many there are. Assumes nothing.
-use mathlib.Core.Path.{_≡_, refl, sym, ap, _∙_, subst}
+use mathlib.Core.Path.{_≡_, refl, sym, ap, _∙_}
 use mathlib.Core.Bool.{Bool, true, false, cond}
 use mathlib.Core.List.{List, [], _∷_, _++_, foldl}
 use Prim.Native.Nat.{ℕ, zero, suc, _+_, _≤_, _<_}

@@ -4,7 +4,6 @@ use mathlib.Core.Logic.{⊎-elim}
 use Prim.Native.Nat.{_-_}
 use native.Mathlib.Omega.{arith}
 use lib.ListN.{length-set}
-use denote.Ref.{now}
 use Rattle.points.proofs.Carry.{Carried, carried-none, carried-past, carried-swapped, carried-done}
 use Rattle.points.proofs.neighbours.insert.Statement.{statement}
 use Rattle.points.proofs.neighbours.insert.Tie as tie

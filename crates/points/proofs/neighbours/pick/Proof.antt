@@ -1,11 +1,8 @@
 -- `points::neighbours::pick` meets its contract: the stride's test, then one gap more. Assumes nothing.
-use mathlib.Core.Path.{_≡_, refl, ap, _∙_}
+use mathlib.Core.Path.{refl}
 use native.Mathlib.Omega.{arith}
 use borrow.Author.Tests.{eq-eqb, ne-eqb}
-use denote.Ref.{now}
-use Rattle.points.specs.declared.neighbours.Gap.{Gap}
-use Rattle.points.specs.Points.{usables}
-use Rattle.points.specs.Spacing.{firstPositive, gapAt}
+use Rattle.points.specs.Spacing.{gapAt}
 use borrow.Author.Needs.{needs}
 use Rattle.points.proofs.neighbours.pick.Statement.{statement}
 use Rattle.points.proofs.neighbours.pick.Tie as tie

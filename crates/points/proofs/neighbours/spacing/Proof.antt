@@ -1,6 +1,5 @@
 -- `points::spacing` meets its contract: the larger of the median and its floor, and the list cleared. Assumes nothing.
 use mathlib.Core.Path.{_∙_, ap}
-use lib.ListN.{length}
 use Rattle.points.specs.Spacing.{spacingOf}
 use Rattle.lists.specs.Lists.{zeros32}
 use borrow.Author.Needs.{needs}

@@ -1,8 +1,4 @@
 -- `points::point::long` meets its contract: between the bounds by `quick`, else by the root. Assumes nothing.
-use mathlib.Core.Path.{ap, _∙_}
-use lib.Ieee.{Float, binary32}
-use Rattle.numbers.specs.Arithmetic.{rooted}
-use Rattle.points.specs.Points.{squaresOf, lengthUsability, isUsable}
 use Rattle.points.proofs.QuickLength.{squares-held, quick}
 use borrow.Author.Needs.{needs}
 use Rattle.points.proofs.point.long.Statement.{statement}

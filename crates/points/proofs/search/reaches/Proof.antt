@@ -1,5 +1,5 @@
 -- `points::search::reaches` meets its contract: the square's test, then the usability. Assumes nothing.
-use mathlib.Core.Path.{_≡_, refl, sym, ap, _∙_}
+use mathlib.Core.Path.{_≡_, refl}
 use mathlib.Core.Bool.{Bool, true, false, _&&_}
 use Rattle.points.specs.Points.{usableOf}
 use borrow.Author.Needs.{needs}

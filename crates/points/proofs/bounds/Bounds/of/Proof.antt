@@ -4,7 +4,6 @@ use mathlib.Core.Logic.{⊎-elim}
 use Prim.Native.Nat.{_-_}
 use native.Mathlib.Omega.{arith}
 use lib.Ieee.{ofBits, div, neg}
-use denote.Ref.{now}
 use Rattle.points.specs.Points.{given}
 use Rattle.points.specs.Box.{reached, noBounds, boundsOf}
 use Rattle.points.specs.UsableLoop.{Folded, folded-none, folded-used, folded-skipped, folded-done}

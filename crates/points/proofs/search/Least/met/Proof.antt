@@ -1,9 +1,8 @@
 -- `points::search::Least::met` meets its contract: where the number changes nothing, usable or not is one. Assumes nothing.
-use mathlib.Core.Path.{_≡_, refl, sym, ap, _∙_}
+use mathlib.Core.Path.{_≡_, refl, sym, _∙_}
 use mathlib.Core.Bool.{Bool, true, false, cond}
 use Rattle.points.specs.Points.{usableOf}
 use Rattle.points.specs.declared.search.Least.{Least}
-use Rattle.points.specs.Inner.{leastWith}
 use Rattle.points.proofs.NearestRoots.{not-open}
 use borrow.Author.Needs.{needs}
 use Rattle.points.proofs.search.Least.met.Statement.{statement}

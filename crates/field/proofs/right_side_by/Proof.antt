@@ -1,0 +1,64 @@
+-- `field::right_side_by` meets its contract: the right side of the three components.
+-- Assumes nothing.
+use mathlib.Core.Path.{ap, _∙_}
+use lib.ListN.{length}
+use denote.Ref.{now}
+use Rattle.numbers.specs.Arithmetic.{narrowed}
+use Rattle.points.specs.Points.{usables}
+use Rattle.field.specs.Field.{rightSideBy}
+use Rattle.field.specs.BoundaryZero.{length-component}
+use Rattle.field.proofs.RightSide.{side-of}
+use borrow.Author.Needs.{needs}
+use Rattle.field.proofs.right_side_by.Statement.{statement}
+use Rattle.field.proofs.right_side_by.Tie as tie
+
+component-requires : tie.Need-component-requires
+component-requires c κs = search needs
+
+component-requires-2 : tie.Need-component-requires-2
+component-requires-2 c κs = search needs
+
+component-requires-3 : tie.Need-component-requires-3
+component-requires-3 c κs = search needs
+
+divergence-requires : tie.Need-divergence-requires
+divergence-requires c κs =
+    let s = c .before .before .before .before .before .before .before .before .before .before .before .before .before .before .before .before .before .before .before .before .before .before .before .before .before .before .before .before .before .before .before .before in
+    let sized = length-component (s .args .g) (usables (now (s .args .points))) (s .args .radius) (now (s .args .kernel)) in
+    (s .pre .0, ap length (c .before .before .before .before .before .before .before .before .before .before .before .before .before .before .before .before .before .before .before .before .before .before .component .ensures) ∙ sized 0, ap length (c .before .before .before .before .before .before .before .before .before .before .before .before .before .before .before .component2 .ensures) ∙ sized 1, ap length (c .before .before .before .before .before .before .before .before .component3 .ensures) ∙ sized 2, s .pre .3)
+
+same-length : tie.Need-same-length
+same-length c = search needs
+
+same-length-2 : tie.Need-same-length-2
+same-length-2 c = search needs
+
+same-length-3 : tie.Need-same-length-3
+same-length-3 c = search needs
+
+same-length-4 : tie.Need-same-length-4
+same-length-4 c = search needs
+
+same-length-5 : tie.Need-same-length-5
+same-length-5 c = search needs
+
+returns : tie.Need-returns
+unfolding rightSideBy
+returns c =
+    let s = c .before .before .before .before .before .before .before .before .before .before .before .before .before .before .before .before .before .before .before .before .before .before .before .before .before .before .before .before .before .before .before .before .before .before .before in
+    c .before .before .divergence .ensures ∙ side-of (s .args .g .nodes) (narrowed (s .args .g .step)) (c .before .before .before .before .before .before .before .before .before .before .before .before .before .before .before .before .before .before .before .before .before .before .before .before .before .component .ensures) (c .before .before .before .before .before .before .before .before .before .before .before .before .before .before .before .before .before .before .component2 .ensures) (c .before .before .before .before .before .before .before .before .before .before .before .component3 .ensures)
+
+pub right-side-by-spec : {M : Type 1} → statement M
+right-side-by-spec =
+    tie.close
+    (tie.spec
+    component-requires
+    component-requires-2
+    component-requires-3
+    divergence-requires
+    same-length
+    same-length-2
+    same-length-3
+    same-length-4
+    same-length-5
+    returns)

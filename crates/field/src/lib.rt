@@ -1,0 +1,90 @@
+// Document 01, "Field", beside `vector_field`, `blur_axis` and `rhs` of the Rust's poisson.rs: the right side of the solver's equation on one grid.
+// The Rust holds three components and blurs each into a new Vec; here each is spread into one slice and blurred to and fro between that and its own.
+mod blur;
+mod divergence;
+mod kernel;
+mod splat;
+
+ghost use mathlib.Core.Path.{_≡_};
+ghost use Prim.Native.Nat.{_*_, _<_, _≤_};
+ghost use lib.ListN.{length};
+ghost use Rattle.lists.specs.Lists.{zeros32};
+ghost use Rattle.grid.specs.Grid.{Sides};
+ghost use Rattle.points.specs.Points.{usables};
+ghost use Rattle.field.specs.Field.{offsetsOf, blurred, componentOf, rightSideBy, rightSide};
+use grid::Grid;
+use kernel::Kernel;
+
+// Axes 0, 1, 2: from s to out, back, and again. What is left in s is of no use.
+fn blur_all(g: Grid, kernel: &[f32], radius: usize, s: &mut [f32], out: &mut [f32])
+    requires { ⌜ Sides (g .nodes) × (radius ≤ 18) × (length (now kernel) ≡ offsetsOf radius) × (length (now s) ≡ g .nodes * g .nodes * g .nodes) × (length (now out) ≡ g .nodes * g .nodes * g .nodes) ⌝ }
+    ensures { λ _. ⌜ now (out .exit) ≡ blurred (g .nodes) radius (now (kernel .entry)) (now (s .entry)) ⌝ }
+{
+    blur::blur_axis(g, s, out, 0, kernel, radius);
+    blur::blur_axis(g, out, s, 1, kernel, radius);
+    blur::blur_axis(g, s, out, 2, kernel, radius);
+}
+
+// One component of the field, by way of s.
+fn component(
+    points: &[f32],
+    g: Grid,
+    kernel: &[f32],
+    radius: usize,
+    a: usize,
+    s: &mut [f32],
+    out: &mut [f32],
+)
+    requires { ⌜ Sides (g .nodes) × (radius ≤ 18) × (length (now kernel) ≡ offsetsOf radius) × (a < 3) × (length (now s) ≡ g .nodes * g .nodes * g .nodes) × (length (now out) ≡ g .nodes * g .nodes * g .nodes) ⌝ }
+    ensures { λ _. ⌜ now (out .exit) ≡ componentOf g (usables (now (points .entry))) radius (now (kernel .entry)) a ⌝ }
+{
+    splat::splat(g, points, a, s);
+    blur_all(g, kernel, radius, s, out);
+}
+
+// The right side, with the blur's weights at hand. x, y and z take the components.
+fn right_side_by(
+    points: &[f32],
+    g: Grid,
+    kernel: &[f32],
+    radius: usize,
+    b: &mut [f32],
+    s: &mut [f32],
+    x: &mut [f32],
+    y: &mut [f32],
+    z: &mut [f32],
+)
+    requires { ⌜ Sides (g .nodes) × (radius ≤ 18) × (length (now kernel) ≡ offsetsOf radius) × (length (now b) ≡ g .nodes * g .nodes * g .nodes) × (length (now s) ≡ g .nodes * g .nodes * g .nodes) × (length (now x) ≡ g .nodes * g .nodes * g .nodes) × (length (now y) ≡ g .nodes * g .nodes * g .nodes) × (length (now z) ≡ g .nodes * g .nodes * g .nodes) ⌝ }
+    ensures { λ _. ⌜ now (b .exit) ≡ rightSideBy g (usables (now (points .entry))) radius (now (kernel .entry)) ⌝ }
+{
+    component(points, g, kernel, radius, 0, s, x);
+    component(points, g, kernel, radius, 1, s, y);
+    component(points, g, kernel, radius, 2, s, z);
+    divergence::divergence(g, x, y, z, b);
+}
+
+// The right side at every node of the grid. All five slices may come with anything in them; the four of scratch go back cleared.
+pub fn right_side(
+    points: &[f32],
+    g: Grid,
+    spacing: f64,
+    smoothing: f32,
+    b: &mut [f32],
+    s: &mut [f32],
+    x: &mut [f32],
+    y: &mut [f32],
+    z: &mut [f32],
+)
+    requires { ⌜ Sides (g .nodes) × (length (now b) ≡ g .nodes * g .nodes * g .nodes) × (length (now s) ≡ g .nodes * g .nodes * g .nodes) × (length (now x) ≡ g .nodes * g .nodes * g .nodes) × (length (now y) ≡ g .nodes * g .nodes * g .nodes) × (length (now z) ≡ g .nodes * g .nodes * g .nodes) ⌝ }
+    ensures { λ _. ⌜ (now (b .exit) ≡ rightSide g (usables (now (points .entry))) spacing smoothing) × (now (s .exit) ≡ zeros32 (g .nodes * g .nodes * g .nodes)) × (now (x .exit) ≡ zeros32 (g .nodes * g .nodes * g .nodes)) × (now (y .exit) ≡ zeros32 (g .nodes * g .nodes * g .nodes)) × (now (z .exit) ≡ zeros32 (g .nodes * g .nodes * g .nodes)) ⌝ }
+{
+    let kernel = Kernel::new(Kernel::sigma(smoothing, spacing, g.step));
+    let radius = kernel.radius;
+    let weights = kernel.weights;
+    let count = radius + radius + 1;
+    right_side_by(points, g, &weights[0..count], radius, b, s, x, y, z);
+    lists::clear_f32(s);
+    lists::clear_f32(x);
+    lists::clear_f32(y);
+    lists::clear_f32(z);
+}

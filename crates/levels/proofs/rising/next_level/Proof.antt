@@ -1,0 +1,84 @@
+-- `levels::next_level` meets its contract: the start, then the level from it (`next-is`). Assumes nothing.
+use mathlib.Core.Path.{refl, sym, _∙_}
+use native.Mathlib.Omega.{arith}
+use denote.Ref.{now}
+use Rattle.points.specs.Points.{usables}
+use Rattle.levels.proofs.OneAfterOther.{nodes-is, next-is}
+use borrow.Author.Needs.{needs}
+use Rattle.levels.proofs.rising.next_level.Statement.{statement}
+use Rattle.levels.proofs.rising.next_level.Tie as tie
+
+add-grid : tie.Need-add-grid
+add-grid c = search needs
+
+grid-requires : tie.Need-grid-requires
+grid-requires c κs = search needs
+
+grid-requires-2 : tie.Need-grid-requires-2
+grid-requires-2 c κs = search needs
+
+start-front-requires : tie.Need-start-front-requires
+start-front-requires c κs =
+    let coarse = c .before .before .grid2 in
+    let g = c .before .before .before .grid in
+    let s = c .before .before .before .before .before .before .before .before .before .before .before .before in
+    let few = nodes-is (s .args .problem) (s .args .depth) (coarse .ensures .0) in
+    let many = nodes-is (s .args .problem) _ (g .ensures .0) in
+    (coarse .ensures .1, (g .ensures .1, (omega (arith, few, s .pre .1 .1), omega (arith, few, s .pre .1 .1), omega (arith, many, s .pre .1 .1))))
+
+level-front-requires : tie.Need-level-front-requires
+level-front-requires c κs =
+    let g = c .before .before .before .before .before .before .before .before .before .before .before .before .before .before .grid in
+    let s = c .before .before .before .before .before .before .before .before .before .before .before .before .before .before .before .before .before .before .before .before .before .before .before in
+    let size = s .pre .1 .0 in
+    let kept = c .before .before .before .before .before .before .before .before .before .before .start-front .kept .1 .1 .1 .0 in (
+      g .ensures .1,
+      (
+        record { of-x = refl; of-b = size .of-b ∙ sym kept; of-s = size .of-s ∙ sym kept; of-r = size .of-r ∙ sym kept; of-p = size .of-p ∙ sym kept; of-ap = size .of-ap ∙ sym kept },
+        omega (arith, kept, nodes-is (s .args .problem) _ (g .ensures .0), s .pre .1 .1),
+      ),
+    )
+
+same-length : tie.Need-same-length
+same-length c = search needs
+
+same-length-2 : tie.Need-same-length-2
+same-length-2 c = search needs
+
+same-length-3 : tie.Need-same-length-3
+same-length-3 c = search needs
+
+same-length-4 : tie.Need-same-length-4
+same-length-4 c = search needs
+
+same-length-5 : tie.Need-same-length-5
+same-length-5 c = search needs
+
+same-length-6 : tie.Need-same-length-6
+same-length-6 c = search needs
+
+same-length-7 : tie.Need-same-length-7
+same-length-7 c = search needs
+
+returns : tie.Need-returns
+returns c =
+    let s = c .before .before .before .before .before .before .before .before .before .before .before .before .before .before .before .before .before .before .before .before .before .before .before .before .before .before .before .before .before .before .before .before .before .before .before .before in
+    next-is (s .args .problem) (usables (now (s .args .points))) (s .args .depth) (now (s .args .x)) (c .before .before .before .before .before .before .before .before .before .before .before .before .before .before .before .before .before .before .before .before .before .before .before .start-front .last .1 .1 .1 .0) (c .before .before .before .before .before .before .before .before .before .before .before .before .level-front .last .1 .1 .1 .0) (c .before .before .before .before .before .before .before .before .before .before .before .before .before .before .before .before .before .before .before .before .before .before .before .before .before .before .grid2 .ensures .0) (c .before .before .before .before .before .before .before .before .before .before .before .before .before .before .before .before .before .before .before .before .before .before .before .before .before .before .before .grid .ensures .0) (c .before .before .before .before .before .before .before .before .before .before .before .before .before .before .before .before .before .before .before .before .before .before .before .start-front .ensures) (c .before .before .before .before .before .before .before .before .before .before .before .before .level-front .ensures)
+
+pub next-level-spec : {M : Type 1} → statement M
+next-level-spec =
+    tie.close
+    (tie.spec
+    add-grid
+    grid-requires
+    grid-requires-2
+    start-front-requires
+    level-front-requires
+    same-length
+    same-length-2
+    same-length-3
+    same-length-4
+    same-length-5
+    same-length-6
+    same-length-7
+    returns)

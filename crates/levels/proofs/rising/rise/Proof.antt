@@ -1,0 +1,104 @@
+-- `levels::rise` meets its contract: the front of x holds the level d, as `risen` has it. Assumes nothing.
+use mathlib.Core.Path.{_≡_, sym, _∙_}
+use Prim.Native.Nat.{_+_, _-_, _≤_}
+use native.Mathlib.Omega.{arith}
+use lib.ListN.{length, take}
+use denote.Ref.{now}
+use Rattle.points.specs.Points.{usables}
+use Rattle.levels.specs.Levels.{nodesAt, risen}
+use Rattle.levels.specs.Inner.{Sized}
+use Rattle.levels.proofs.Fronts.{nodes-mono}
+use Rattle.levels.proofs.OneAfterOther.{sized-by, rise-more, rise-done}
+use Rattle.levels.proofs.rising.rise.Statement.{statement}
+use Rattle.levels.proofs.rising.rise.Tie as tie
+
+abbrev Inv-loop : tie.InvT-loop
+Inv-loop problem points first depth x₀ before₀ b₀ s₀ r₀ p₀ ap₀ d₀ x before b s r p ap d = (take (nodesAt d) x ≡ risen problem (usables points) first (d - first)) × (first ≤ d) × (d ≤ depth) × Sized (nodesAt depth) x b s r p ap × (length before ≡ nodesAt depth)
+
+abbrev μ-loop : tie.MeasureT-loop
+μ-loop problem points first depth x₀ before₀ b₀ s₀ r₀ p₀ ap₀ d₀ x before b s r p ap d = depth - d
+
+loop-holds : tie.Need-loop-holds Inv-loop μ-loop
+loop-holds c =
+    let s = c .before .before .before .before .before .before .before .before in
+    let none : s .args .first - s .args .first ≡ 0 = omega arith in
+    (rw none (s .pre .1 .1 .1), omega arith, s .pre .0 .1, s .pre .1 .0, s .pre .1 .1 .0)
+
+next-level-requires : tie.Need-next-level-requires Inv-loop μ-loop
+next-level-requires c κs =
+    let q = c .before .before .before .before .before .before .before .before in
+    let s = c .before .before .before .before .before .before .before .before .before .before .before .before .before .before .before .before .before in
+    let size = q .loop .inv .3 in
+    let test = c .before .before .before .before .before .before .before .loop-test .taken in
+    let small = nodes-mono (q .loop .inv .2) in
+    let most : q .loop .d + 1 ≤ s .args .depth = omega arith in
+    let large = nodes-mono most in (
+      (omega (arith, s .pre .0, q .loop .inv .1), omega (arith, s .pre .0)),
+      (sized-by size (sym (size .of-x)), (q .loop .inv .4 ∙ sym (size .of-x), omega (arith, size .of-x), omega (arith, size .of-x))),
+    )
+
+add-d : tie.Need-add-d Inv-loop μ-loop
+add-d c = omega (arith, c .before .before .before .before .before .before .before .before .before .before .before .before .before .before .before .before .before .before .before .before .before .before .loop-test .taken, c .before .before .before .before .before .before .before .before .before .before .before .before .before .before .before .before .before .before .before .before .before .before .before .before .before .before .before .before .before .before .before .before .pre .0)
+
+loop-less : tie.Need-loop-less Inv-loop μ-loop
+loop-less c = omega (arith, c .before .before .before .before .before .before .before .before .before .before .before .before .before .before .before .before .before .before .before .before .before .before .loop-test .taken)
+
+loop-again : tie.Need-loop-again Inv-loop μ-loop
+loop-again c =
+    let o = c .before .before .before .before .before .before .before .before .before .before .before .before .before .before .next-level in
+    let q = c .before .before .before .before .before .before .before .before .before .before .before .before .before .before .before .before .before .before .before .before .before .before .before in
+    let s = c .before .before .before .before .before .before .before .before .before .before .before .before .before .before .before .before .before .before .before .before .before .before .before .before .before .before .before .before .before .before .before .before in
+    let size = q .loop .inv .3 in (
+      rise-more (s .args .problem) (usables (now (s .args .points))) (s .args .first) (q .loop .d) (q .loop .x) (o .last .1 .1 .1 .0) (q .loop .inv .1) (q .loop .inv .0) (o .ensures),
+      omega (arith, q .loop .inv .1),
+      omega (arith, c .before .before .before .before .before .before .before .before .before .before .before .before .before .before .before .before .before .before .before .before .before .before .loop-test .taken),
+      record { of-x = o .kept .1 .1 .1 .0 ∙ size .of-x; of-b = o .kept .1 .1 .1 .1 .1 .0 ∙ size .of-b; of-s = o .kept .1 .1 .1 .1 .1 .1 .0 ∙ size .of-s; of-r = o .kept .1 .1 .1 .1 .1 .1 .1 .0 ∙ size .of-r; of-p = o .kept .1 .1 .1 .1 .1 .1 .1 .1 .0 ∙ size .of-p; of-ap = o .kept .1 .1 .1 .1 .1 .1 .1 .1 .1 .0 ∙ size .of-ap },
+      o .kept .1 .1 .1 .1 .0 ∙ q .loop .inv .4,
+    )
+
+same-length : tie.Need-same-length Inv-loop μ-loop
+same-length c = c .before .loop .inv .3 .of-x ∙ sym (c .before .before .before .before .before .before .before .before .before .before .pre .1 .0 .of-x)
+
+same-length-2 : tie.Need-same-length-2 Inv-loop μ-loop
+same-length-2 c = c .before .loop .inv .4 ∙ sym (c .before .before .before .before .before .before .before .before .before .before .pre .1 .1 .0)
+
+same-length-3 : tie.Need-same-length-3 Inv-loop μ-loop
+same-length-3 c = c .before .loop .inv .3 .of-b ∙ sym (c .before .before .before .before .before .before .before .before .before .before .pre .1 .0 .of-b)
+
+same-length-4 : tie.Need-same-length-4 Inv-loop μ-loop
+same-length-4 c = c .before .loop .inv .3 .of-s ∙ sym (c .before .before .before .before .before .before .before .before .before .before .pre .1 .0 .of-s)
+
+same-length-5 : tie.Need-same-length-5 Inv-loop μ-loop
+same-length-5 c = c .before .loop .inv .3 .of-r ∙ sym (c .before .before .before .before .before .before .before .before .before .before .pre .1 .0 .of-r)
+
+same-length-6 : tie.Need-same-length-6 Inv-loop μ-loop
+same-length-6 c = c .before .loop .inv .3 .of-p ∙ sym (c .before .before .before .before .before .before .before .before .before .before .pre .1 .0 .of-p)
+
+same-length-7 : tie.Need-same-length-7 Inv-loop μ-loop
+same-length-7 c = c .before .loop .inv .3 .of-ap ∙ sym (c .before .before .before .before .before .before .before .before .before .before .pre .1 .0 .of-ap)
+
+returns : tie.Need-returns Inv-loop μ-loop
+returns c =
+    let q = c .before in
+    let s = c .before .before .before .before .before .before .before .before .before .before in
+    rise-done (s .args .problem) (usables (now (s .args .points))) (s .args .first) (q .loop .d) (s .args .depth) (q .loop .x) (q .loop .inv .0) (omega (arith, q .loop .inv .2)) (q .loop .inv .3 .of-x)
+
+pub rise-spec : {M : Type 1} → statement M
+rise-spec =
+    tie.close
+    (tie.spec
+    Inv-loop
+    μ-loop
+    loop-holds
+    next-level-requires
+    add-d
+    loop-less
+    loop-again
+    same-length
+    same-length-2
+    same-length-3
+    same-length-4
+    same-length-5
+    same-length-6
+    same-length-7
+    returns)

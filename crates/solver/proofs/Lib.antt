@@ -1,0 +1,5 @@
+-- Laws that no one function owns.
+pub mod InnerRow
+pub mod ApplyRows
+pub mod NanRun
+pub mod Steps

@@ -1,0 +1,113 @@
+-- Document 01, "Solver", in its order, for one level: A x, the dot product, and conjugate gradients with their two stops and their cap.
+-- Values at the nodes are f32 and sums over them f64. The levels are in Levels of the crate `levels`. Definitions only; assumes nothing.
+use mathlib.Core.Bool.{Bool, _||_, cond}
+use mathlib.Core.List.{List}
+use Prim.Native.Nat.{ℕ, zero, suc, _+_, _-_, _*_}
+use lib.Ieee.{Float, binary32, binary64, ofBits, add, sub, mul, div, le, eq}
+use Rattle.lists.specs.Lists.{tabulate, at, zero32}
+use Rattle.numbers.specs.Arithmetic.{rooted, narrowed}
+use Rattle.grid.specs.declared.Grid.{Grid}
+use Rattle.grid.specs.Grid.{boundaryNode}
+
+-- N, the number of nodes
+abbrev pub allNodes : Grid → ℕ
+allNodes g = g .nodes * g .nodes * g .nodes
+
+-- ---- A x = 6x minus six neighbours, subtracted -x,+x,-y,+y,-z,+z; 0 on the boundary
+
+abbrev pub six32 : Float
+six32 = ofBits binary32 0x40C0_0000
+
+-- at node q, whose neighbours along x, y and z are plane, row and 1 numbers away
+abbrev pub stencilAt : (plane row : ℕ) (x : List Float) (q : ℕ) → Float
+stencilAt plane row x q =
+    sub binary32
+    (sub binary32
+    (sub binary32
+    (sub binary32 (sub binary32 (sub binary32 (mul binary32 six32 (at x q)) (at x (q - plane))) (at x (q + plane))) (at x (q - row)))
+    (at x (q + row)))
+    (at x (q - 1)))
+    (at x (q + 1))
+
+unfoldable pub applyAt : (n : ℕ) (x : List Float) (q : ℕ) → Float
+applyAt n x q = cond (boundaryNode n q) zero32 (stencilAt (n * n) n x q)
+
+abbrev pub applied : (g : Grid) (x : List Float) → List Float
+applied g x = tabulate (allNodes g) (applyAt (g .nodes) x)
+
+-- ---- the dot product: f64, index order, from +0.0
+
+abbrev pub zero64 : Float
+zero64 = ofBits binary64 0
+
+-- the first k products. An f32 is the same number at f64, so the terms are multiplied as they are
+unfoldable pub dotTo : (a b : List Float) (k : ℕ) → Float
+dotTo a b zero = zero64
+dotTo a b (suc k) = add binary64 (dotTo a b k) (mul binary64 (at a k) (at b k))
+
+unfoldable pub dotted : (g : Grid) (a b : List Float) → Float
+dotted g a b = dotTo a b (allNodes g)
+
+-- ---- sums over all nodes, in f32: a + c·b, a - c·b and a - b
+
+abbrev pub plusAt : (c : Float) (a b : List Float) (k : ℕ) → Float
+plusAt c a b k = add binary32 (at a k) (mul binary32 c (at b k))
+
+abbrev pub minusAt : (c : Float) (a b : List Float) (k : ℕ) → Float
+minusAt c a b k = sub binary32 (at a k) (mul binary32 c (at b k))
+
+abbrev pub lessAt : (a b : List Float) (k : ℕ) → Float
+lessAt a b k = sub binary32 (at a k) (at b k)
+
+-- ---- conjugate gradients: the solution so far, the residual, the direction, and rr = r·r
+
+pub record State : Type 0 where
+  pub x : List Float
+  pub r : List Float
+  pub p : List Float
+  pub rr : Float
+
+-- from x: r = b - A x, p = r
+unfoldable pub started : (g : Grid) (b x : List Float) → State
+started g b x =
+    let r = tabulate (allNodes g) (lessAt b (applied g x)) in record { x = x; r = r; p = r; rr = dotted g r r }
+
+-- p · A p
+abbrev pub papOf : (g : Grid) → State → Float
+papOf g s = dotted g (s .p) (applied g (s .p))
+
+-- stop if root(rr) ≤ limit, which is tolerance·|b|; stop if pap ≤ 0; NaN stops neither
+unfoldable pub stops : (g : Grid) (limit : Float) → State → Bool
+stops g limit s = le (rooted binary64 (s .rr)) limit || le (papOf g s) zero64
+
+-- alpha = rr/pap, narrowed
+unfoldable pub alphaOf : (g : Grid) → State → Float
+alphaOf g s = narrowed (div binary64 (s .rr) (papOf g s))
+
+-- one step: x, r, rr, beta = rr'/rr narrowed, p
+unfoldable pub next : (g : Grid) → State → State
+next g s =
+    let alpha = alphaOf g s in
+    let r' = tabulate (allNodes g) (minusAt alpha (s .r) (applied g (s .p))) in
+    let rr' = dotted g r' r' in
+    let beta = narrowed (div binary64 rr' (s .rr)) in
+    record {
+      x = tabulate (allNodes g) (plusAt alpha (s .x) (s .p));
+      r = r';
+      p = tabulate (allNodes g) (plusAt beta r' (s .p));
+      rr = rr';
+    }
+
+-- at most k steps
+unfoldable pub steps : (g : Grid) (limit : Float) (k : ℕ) → State → State
+steps g limit zero s = s
+steps g limit (suc k) s = cond (stops g limit s) s (steps g limit k (next g s))
+
+-- |b|
+abbrev pub normOf : (g : Grid) (b : List Float) → Float
+normOf g b = rooted binary64 (dotted g b b)
+
+-- the solution of A x = b from x on. A zero right side leaves x as it started
+unfoldable pub conjugate : (g : Grid) (tolerance : Float) (cap : ℕ) (b x : List Float) → List Float
+conjugate g tolerance cap b x =
+    cond (eq (normOf g b) zero64) x (steps g (mul binary64 tolerance (normOf g b)) cap (started g b x) .x)
