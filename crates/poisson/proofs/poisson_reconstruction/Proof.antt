@@ -1,0 +1,96 @@
+-- The attempt shows its results at the front of the slices, and the ending clears the rest.
+use mathlib.Core.Path.{_≡_, refl, sym, ap, _∙_, subst}
+use native.Mathlib.Omega.{arith}
+use Rattle.lists.specs.Lists.{zero32, zeros32, zerosU}
+use Rattle.lists.specs.Padded.{cleared-padded}
+use borrow.Author.Needs.{needs}
+use Rattle.poisson.proofs.poisson_reconstruction.Statement.{statement}
+use Rattle.poisson.proofs.poisson_reconstruction.Tie as tie
+
+attempt-requires : tie.Need-attempt-requires
+attempt-requires c κs = search needs
+
+mul-v : tie.Need-mul-v
+mul-v c = omega (arith, c .before .before .before .before .before .before .before .before .before .before .before .before .before .before .before .before .before .before .before .before .before .before .before .attempt .ensures .v-room, c .before .before .before .before .before .before .before .before .before .before .before .before .before .before .before .before .before .before .before .before .before .before .before .attempt .kept .1 .1 .0, c .before .before .before .before .before .before .before .before .before .before .before .before .before .before .before .before .before .before .before .before .before .before .before .before .before .before .before .before .before .before .before .before .before .before .before .before .before .before .before .before .before .before .before .before .before .before .before .good .1 .1 .0 .0)
+
+mul-w : tie.Need-mul-w
+mul-w c = omega (arith, c .before .before .before .before .before .before .before .before .before .before .before .before .before .before .before .before .before .before .before .before .before .before .before .before .attempt .ensures .f-room, c .before .before .before .before .before .before .before .before .before .before .before .before .before .before .before .before .before .before .before .before .before .before .before .before .attempt .kept .1 .1 .1 .0, c .before .before .before .before .before .before .before .before .before .before .before .before .before .before .before .before .before .before .before .before .before .before .before .before .before .before .before .before .before .before .before .before .before .before .before .before .before .before .before .before .before .before .before .before .before .before .before .before .good .1 .1 .1 .0 .0)
+
+tidy-requires : tie.Need-tidy-requires
+tidy-requires c κs = search needs
+
+same-length : tie.Need-same-length
+same-length c = c .before .before .before .before .before .before .before .before .before .before .before .before .before .before .before .before .before .before .before .before .before .before .tidy .kept .1 .1 .0 ∙ c .before .before .before .before .before .before .before .before .before .before .before .before .before .before .before .before .before .before .before .before .before .before .before .before .before .before .before .before .before .before .before .before .before .before .before .before .before .before .before .before .before .before .before .before .before .before .before .before .before .before .before .before .before .before .before .before .before .before .attempt .kept .1 .1 .0
+
+same-length-2 : tie.Need-same-length-2
+same-length-2 c = c .before .before .before .before .before .before .before .before .before .before .before .before .before .before .before .before .before .before .before .before .before .before .tidy .kept .1 .1 .1 .0 ∙ c .before .before .before .before .before .before .before .before .before .before .before .before .before .before .before .before .before .before .before .before .before .before .before .before .before .before .before .before .before .before .before .before .before .before .before .before .before .before .before .before .before .before .before .before .before .before .before .before .before .before .before .before .before .before .before .before .before .before .attempt .kept .1 .1 .1 .0
+
+same-length-3 : tie.Need-same-length-3
+same-length-3 c = c .before .before .before .before .before .before .before .before .before .before .before .before .before .before .before .before .before .before .before .before .before .before .tidy .kept .1 .1 .1 .1 .0 ∙ c .before .before .before .before .before .before .before .before .before .before .before .before .before .before .before .before .before .before .before .before .before .before .before .before .before .before .before .before .before .before .before .before .before .before .before .before .before .before .before .before .before .before .before .before .before .before .before .before .before .before .before .before .before .before .before .before .before .before .attempt .kept .1 .1 .1 .1 .0
+
+same-length-4 : tie.Need-same-length-4
+same-length-4 c = c .before .before .before .before .before .before .before .before .before .before .before .before .before .before .before .before .before .before .before .before .before .before .tidy .kept .1 .1 .1 .1 .1 .0 ∙ c .before .before .before .before .before .before .before .before .before .before .before .before .before .before .before .before .before .before .before .before .before .before .before .before .before .before .before .before .before .before .before .before .before .before .before .before .before .before .before .before .before .before .before .before .before .before .before .before .before .before .before .before .before .before .before .before .before .before .attempt .kept .1 .1 .1 .1 .1 .0
+
+same-length-5 : tie.Need-same-length-5
+same-length-5 c = c .before .before .before .before .before .before .before .before .before .before .before .before .before .before .before .before .before .before .before .before .before .before .tidy .kept .1 .1 .1 .1 .1 .1 .0 ∙ c .before .before .before .before .before .before .before .before .before .before .before .before .before .before .before .before .before .before .before .before .before .before .before .before .before .before .before .before .before .before .before .before .before .before .before .before .before .before .before .before .before .before .before .before .before .before .before .before .before .before .before .before .before .before .before .before .before .before .attempt .kept .1 .1 .1 .1 .1 .1 .0
+
+same-length-6 : tie.Need-same-length-6
+same-length-6 c = c .before .before .before .before .before .before .before .before .before .before .before .before .before .before .before .before .before .before .before .before .before .before .tidy .kept .1 .1 .1 .1 .1 .1 .1 .0 ∙ c .before .before .before .before .before .before .before .before .before .before .before .before .before .before .before .before .before .before .before .before .before .before .before .before .before .before .before .before .before .before .before .before .before .before .before .before .before .before .before .before .before .before .before .before .before .before .before .before .before .before .before .before .before .before .before .before .before .before .attempt .kept .1 .1 .1 .1 .1 .1 .1 .0
+
+same-length-7 : tie.Need-same-length-7
+same-length-7 c = c .before .before .before .before .before .before .before .before .before .before .before .before .before .before .before .before .before .before .before .before .before .before .tidy .kept .1 .1 .1 .1 .1 .1 .1 .1 .0 ∙ c .before .before .before .before .before .before .before .before .before .before .before .before .before .before .before .before .before .before .before .before .before .before .before .before .before .before .before .before .before .before .before .before .before .before .before .before .before .before .before .before .before .before .before .before .before .before .before .before .before .before .before .before .before .before .before .before .before .before .attempt .kept .1 .1 .1 .1 .1 .1 .1 .1 .0
+
+same-length-8 : tie.Need-same-length-8
+same-length-8 c = c .before .before .before .before .before .before .before .before .before .before .before .before .before .before .before .before .before .before .before .before .before .before .tidy .kept .1 .1 .1 .1 .1 .1 .1 .1 .1 .0 ∙ c .before .before .before .before .before .before .before .before .before .before .before .before .before .before .before .before .before .before .before .before .before .before .before .before .before .before .before .before .before .before .before .before .before .before .before .before .before .before .before .before .before .before .before .before .before .before .before .before .before .before .before .before .before .before .before .before .before .before .attempt .kept .1 .1 .1 .1 .1 .1 .1 .1 .1 .0
+
+same-length-9 : tie.Need-same-length-9
+same-length-9 c = c .before .before .before .before .before .before .before .before .before .before .before .before .before .before .before .before .before .before .before .before .before .before .tidy .kept .1 .1 .1 .1 .1 .1 .1 .1 .1 .1 .0 ∙ c .before .before .before .before .before .before .before .before .before .before .before .before .before .before .before .before .before .before .before .before .before .before .before .before .before .before .before .before .before .before .before .before .before .before .before .before .before .before .before .before .before .before .before .before .before .before .before .before .before .before .before .before .before .before .before .before .before .before .attempt .kept .1 .1 .1 .1 .1 .1 .1 .1 .1 .1 .0
+
+same-length-10 : tie.Need-same-length-10
+same-length-10 c = c .before .before .before .before .before .before .before .before .before .before .before .before .before .before .before .before .before .before .before .before .before .before .tidy .kept .1 .1 .1 .1 .1 .1 .1 .1 .1 .1 .1 .0 ∙ c .before .before .before .before .before .before .before .before .before .before .before .before .before .before .before .before .before .before .before .before .before .before .before .before .before .before .before .before .before .before .before .before .before .before .before .before .before .before .before .before .before .before .before .before .before .before .before .before .before .before .before .before .before .before .before .before .before .before .attempt .kept .1 .1 .1 .1 .1 .1 .1 .1 .1 .1 .1 .0
+
+same-length-11 : tie.Need-same-length-11
+same-length-11 c = c .before .before .before .before .before .before .before .before .before .before .before .before .before .before .before .before .before .before .before .before .before .before .tidy .kept .1 .1 .1 .1 .1 .1 .1 .1 .1 .1 .1 .1 .0 ∙ c .before .before .before .before .before .before .before .before .before .before .before .before .before .before .before .before .before .before .before .before .before .before .before .before .before .before .before .before .before .before .before .before .before .before .before .before .before .before .before .before .before .before .before .before .before .before .before .before .before .before .before .before .before .before .before .before .before .before .attempt .kept .1 .1 .1 .1 .1 .1 .1 .1 .1 .1 .1 .1 .0
+
+returns : tie.Need-returns
+returns c =
+    let made = c .before .before .before .before .before .before .before .before .before .before .before .before .before .before .before .before .before .before .before .before .before .before .before .before .before .before .before .before .before .before .before .before .before .before .before .before .before .before .before .before .before .before .before .before .before .before .before .before .before .before .before .before .before .before .before .before .before .before .attempt in
+    let told = c .before .before .before .before .before .before .before .before .before .before .before .before .before .before .before .before .before .before .before .before .before .before .tidy .ensures in
+    let shown = made .ensures in
+    record {
+      answered = shown .answered;
+      vertices = told .vertices ∙ cleared-padded zero32 _ (made .last .1 .1 .0) (shown .v-held) (shown .v-count) (made .kept .1 .1 .0);
+      faces = told .faces ∙ cleared-padded 0 _ (made .last .1 .1 .1 .0) (shown .f-held) (shown .f-count) (made .kept .1 .1 .1 .0);
+      scratch = record {
+        s0-clear = told .scratch .s0-clear ∙ ap zeros32 (made .kept .1 .1 .1 .1 .0);
+        s1-clear = told .scratch .s1-clear ∙ ap zeros32 (made .kept .1 .1 .1 .1 .1 .0);
+        s2-clear = told .scratch .s2-clear ∙ ap zeros32 (made .kept .1 .1 .1 .1 .1 .1 .0);
+        s3-clear = told .scratch .s3-clear ∙ ap zeros32 (made .kept .1 .1 .1 .1 .1 .1 .1 .0);
+        s4-clear = told .scratch .s4-clear ∙ ap zeros32 (made .kept .1 .1 .1 .1 .1 .1 .1 .1 .0);
+        s5-clear = told .scratch .s5-clear ∙ ap zeros32 (made .kept .1 .1 .1 .1 .1 .1 .1 .1 .1 .0);
+        s6-clear = told .scratch .s6-clear ∙ ap zeros32 (made .kept .1 .1 .1 .1 .1 .1 .1 .1 .1 .1 .0);
+        edges-clear = told .scratch .edges-clear ∙ ap zerosU (made .kept .1 .1 .1 .1 .1 .1 .1 .1 .1 .1 .1 .0);
+        distances-clear = told .scratch .distances-clear ∙ ap zeros32 (made .kept .1 .1 .1 .1 .1 .1 .1 .1 .1 .1 .1 .1 .0);
+      };
+    }
+
+pub poisson-reconstruction-spec : {M : Type 1} → statement M
+poisson-reconstruction-spec =
+    tie.close
+    (tie.spec
+    attempt-requires
+    mul-v
+    mul-w
+    tidy-requires
+    same-length
+    same-length-2
+    same-length-3
+    same-length-4
+    same-length-5
+    same-length-6
+    same-length-7
+    same-length-8
+    same-length-9
+    same-length-10
+    same-length-11
+    returns)

@@ -1,0 +1,73 @@
+-- The call with the settings that `Settings::new` gives, which are the defaults.
+use mathlib.Core.Path.{_≡_, ap}
+use denote.Ref.{now}
+use Rattle.settings.specs.declared.Settings.{Settings}
+use Rattle.scan.specs.Reconstruction.{reconstructed}
+use Rattle.poisson.specs.Outcome.{lengthsOf}
+use Rattle.poisson.proofs.Finishing.{carry}
+use borrow.Author.Needs.{needs}
+use Rattle.poisson.proofs.poisson_reconstruction_default.Statement.{statement}
+use Rattle.poisson.proofs.poisson_reconstruction_default.Tie as tie
+
+new-requires : tie.Need-new-requires
+new-requires c κs = search needs
+
+poisson-reconstruction-requires : tie.Need-poisson-reconstruction-requires
+poisson-reconstruction-requires c κs = search needs
+
+same-length : tie.Need-same-length
+same-length c = search needs
+
+same-length-2 : tie.Need-same-length-2
+same-length-2 c = search needs
+
+same-length-3 : tie.Need-same-length-3
+same-length-3 c = search needs
+
+same-length-4 : tie.Need-same-length-4
+same-length-4 c = search needs
+
+same-length-5 : tie.Need-same-length-5
+same-length-5 c = search needs
+
+same-length-6 : tie.Need-same-length-6
+same-length-6 c = search needs
+
+same-length-7 : tie.Need-same-length-7
+same-length-7 c = search needs
+
+same-length-8 : tie.Need-same-length-8
+same-length-8 c = search needs
+
+same-length-9 : tie.Need-same-length-9
+same-length-9 c = search needs
+
+same-length-10 : tie.Need-same-length-10
+same-length-10 c = search needs
+
+same-length-11 : tie.Need-same-length-11
+same-length-11 c = search needs
+
+returns : tie.Need-returns
+returns c =
+    let x = c .before .before .before .before .before .before .before .before .before .before .before .before .before .before .before .before .before .before .before .before .before .before .before .before .before .before .before .before .before .before .before .before .before .before .before .before .before .before .before .before .before .before .before .before .before .before .before .args in
+    carry (ap (λ (st : Settings). reconstructed (now (x .points)) st (lengthsOf (now (x .vertices)) (now (x .faces)) (now (x .s0)) (now (x .s1)) (now (x .s2)) (now (x .s3)) (now (x .s4)) (now (x .s5)) (now (x .s6)) (now (x .edges)) (now (x .distances)))) (c .before .before .before .before .before .before .before .before .before .before .before .before .before .before .before .before .before .before .before .before .before .before .before .before .before .before .before .before .before .before .before .before .before .before .new .ensures)) (c .before .before .before .before .before .before .before .before .before .before .before .before .before .before .before .before .before .before .before .before .before .before .poisson-reconstruction .ensures)
+
+pub poisson-reconstruction-default-spec : {M : Type 1} → statement M
+poisson-reconstruction-default-spec =
+    tie.close
+    (tie.spec
+    new-requires
+    poisson-reconstruction-requires
+    same-length
+    same-length-2
+    same-length-3
+    same-length-4
+    same-length-5
+    same-length-6
+    same-length-7
+    same-length-8
+    same-length-9
+    same-length-10
+    same-length-11
+    returns)

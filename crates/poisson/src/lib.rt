@@ -1,0 +1,289 @@
+// Document 01, the whole call, beside `poisson_reconstruction` and `poisson_reconstruction_default` of the Rust's poisson.rs: the checks in their order, the stages, and one ending
+// that clears what is unused. "For every bit pattern of points and settings the call ends and stays inside the slices it was lent. The caller checks nothing first": nothing is required.
+ghost use mathlib.Core.Path.{_≡_};
+ghost use mathlib.Core.List.{[], _∷_};
+ghost use Prim.Native.Nat.{_*_, _^_, _≤_, _<_};
+ghost use lib.ListN.{length};
+ghost use Rattle.points.specs.Points.{given, usables};
+ghost use Rattle.settings.specs.Settings.{defaults};
+ghost use Rattle.settings.specs.Refusals.{_then_, earlyVerdict, usableVerdict, extentVerdict, roomVerdict, meshVerdict};
+ghost use Rattle.scan.specs.Reconstruction.{extentFor, lateVerdict, resultsUnder, reconstructed};
+ghost use Rattle.poisson.specs.Outcome.{lengthsOf, Done};
+ghost use Rattle.poisson.specs.Inner.{Shown, Workable, Finishable};
+use grid::Grid;
+use points::Bounds;
+use scan::Found;
+use settings::Answer;
+use settings::Lengths;
+use settings::Settings;
+use settings::Verdict;
+
+// 7, 1, 2, 3, 8, 4, 5: the checks before any slice is touched.
+fn inspect(points: &[f32], settings: Settings, lengths: Lengths) -> Verdict
+    ensures { λ r. ⌜ r ≡ earlyVerdict (now (points .entry)) settings lengths then usableVerdict (length (usables (now (points .entry)))) then extentVerdict (extentFor (usables (now (points .entry)))) ⌝ }
+{
+    let early = settings::early(points, settings, lengths);
+    let Verdict::Pass = early else {
+        return early;
+    };
+    let enough = settings::usable_verdict(points::usable_count(points));
+    let Verdict::Pass = enough else {
+        return enough;
+    };
+    settings::extent_verdict(Bounds::of(points).extent())
+}
+
+// 9 and 10, then 6 before trimming.
+fn late(found: Found, lengths: Lengths) -> Verdict
+    requires { ⌜ (found .vertices < 1000000000) × (found .faces < 1000000000) ⌝ }
+    ensures { λ r. ⌜ r ≡ roomVerdict (found .vertices) (found .faces) lengths then meshVerdict (found .faces) ⌝ }
+{
+    let room = settings::room_verdict(found.vertices, found.faces, lengths);
+    let Verdict::Pass = room else {
+        return room;
+    };
+    settings::mesh_verdict(found.faces)
+}
+
+// The mesh, if there is room for it, and the answer.
+fn finish(
+    points: &[f32],
+    settings: Settings,
+    lengths: Lengths,
+    g: Grid,
+    found: Found,
+    vertices: &mut [f32],
+    faces: &mut [u32],
+    field: &[f32],
+    a: &mut [f32],
+    b: &mut [f32],
+    c: &mut [f32],
+    edges: &mut [u32],
+) -> Answer
+    requires { ⌜ Finishable (usables (now points)) settings lengths g found (now vertices) (now faces) (now field) (now a) (now b) (now c) (now edges) ⌝ }
+    ensures { λ r. ⌜ Shown (resultsUnder (lateVerdict (usables (now (points .entry))) settings lengths) (usables (now (points .entry))) settings) r (now (vertices .exit)) (now (faces .exit)) ⌝ }
+{
+    let verdict = late(found, lengths);
+    let Verdict::Pass = verdict else {
+        return Answer::refused(verdict);
+    };
+    let v = 3 * found.vertices;
+    let w = 3 * found.faces;
+    let size = scan::draw(
+        points,
+        settings,
+        g,
+        found.level,
+        &mut vertices[..v],
+        &mut faces[..w],
+        field,
+        a,
+        b,
+        c,
+        edges,
+    );
+    let k = 3 * size.vertices;
+    scan::conclude(
+        points::usable_count(points),
+        found.level,
+        size.faces,
+        &vertices[..k],
+    )
+}
+
+// The stages, in slices of exactly the stated lengths.
+fn work(
+    points: &[f32],
+    settings: Settings,
+    lengths: Lengths,
+    vertices: &mut [f32],
+    faces: &mut [u32],
+    s0: &mut [f32],
+    s1: &mut [f32],
+    s2: &mut [f32],
+    s3: &mut [f32],
+    s4: &mut [f32],
+    s5: &mut [f32],
+    s6: &mut [f32],
+    edges: &mut [u32],
+    distances: &mut [f32],
+) -> Answer
+    requires { ⌜ Workable (now points) settings lengths (now vertices) (now faces) (now s0) (now s1) (now s2) (now s3) (now s4) (now s5) (now s6) (now edges) (now distances) ⌝ }
+    ensures { λ r. ⌜ Shown (resultsUnder (lateVerdict (usables (now (points .entry))) settings lengths) (usables (now (points .entry))) settings) r (now (vertices .exit)) (now (faces .exit)) ⌝ }
+{
+    let bounds = Bounds::of(points);
+    let found = scan::prepare(
+        points,
+        settings,
+        bounds,
+        s0,
+        s1,
+        s2,
+        s3,
+        s4,
+        s5,
+        s6,
+        edges,
+        distances,
+    );
+    let g = scan::grid_for(bounds, settings);
+    finish(
+        points,
+        settings,
+        lengths,
+        g,
+        found,
+        vertices,
+        faces,
+        s0,
+        s1,
+        s2,
+        s3,
+        edges,
+    )
+}
+
+// The checks, and then the stages. A refusal leaves the slices as it found them, or as the stages left them.
+fn attempt(
+    points: &[f32],
+    settings: Settings,
+    vertices: &mut [f32],
+    faces: &mut [u32],
+    s0: &mut [f32],
+    s1: &mut [f32],
+    s2: &mut [f32],
+    s3: &mut [f32],
+    s4: &mut [f32],
+    s5: &mut [f32],
+    s6: &mut [f32],
+    edges: &mut [u32],
+    distances: &mut [f32],
+) -> Answer
+    ensures { λ r. ⌜ Shown (reconstructed (now (points .entry)) settings (lengthsOf (now (vertices .entry)) (now (faces .entry)) (now (s0 .entry)) (now (s1 .entry)) (now (s2 .entry)) (now (s3 .entry)) (now (s4 .entry)) (now (s5 .entry)) (now (s6 .entry)) (now (edges .entry)) (now (distances .entry)))) r (now (vertices .exit)) (now (faces .exit)) ⌝ }
+{
+    let grids = [
+        s0.len(),
+        s1.len(),
+        s2.len(),
+        s3.len(),
+        s4.len(),
+        s5.len(),
+        s6.len(),
+    ];
+    let lengths = Lengths {
+        vertices: vertices.len(),
+        faces: faces.len(),
+        grids,
+        edges: edges.len(),
+        distances: distances.len(),
+    };
+    let verdict = inspect(points, settings, lengths);
+    let Verdict::Pass = verdict else {
+        return Answer::refused(verdict);
+    };
+    let n = settings::nodes(settings.depth);
+    let m = 3 * n;
+    work(
+        points,
+        settings,
+        lengths,
+        vertices,
+        faces,
+        &mut s0[..n],
+        &mut s1[..n],
+        &mut s2[..n],
+        &mut s3[..n],
+        &mut s4[..n],
+        &mut s5[..n],
+        &mut s6[..n],
+        &mut edges[..m],
+        distances,
+    )
+}
+
+// The whole call: an answer, the mesh at the front of the two result slices, and zeros everywhere else.
+pub fn poisson_reconstruction(
+    points: &[f32],
+    settings: Settings,
+    vertices: &mut [f32],
+    faces: &mut [u32],
+    s0: &mut [f32],
+    s1: &mut [f32],
+    s2: &mut [f32],
+    s3: &mut [f32],
+    s4: &mut [f32],
+    s5: &mut [f32],
+    s6: &mut [f32],
+    edges: &mut [u32],
+    distances: &mut [f32],
+) -> Answer
+    ensures { λ r. ⌜ Done (reconstructed (now (points .entry)) settings (lengthsOf (now (vertices .entry)) (now (faces .entry)) (now (s0 .entry)) (now (s1 .entry)) (now (s2 .entry)) (now (s3 .entry)) (now (s4 .entry)) (now (s5 .entry)) (now (s6 .entry)) (now (edges .entry)) (now (distances .entry)))) r (now (vertices .entry)) (now (vertices .exit)) (now (faces .entry)) (now (faces .exit)) (now (s0 .entry)) (now (s0 .exit)) (now (s1 .entry)) (now (s1 .exit)) (now (s2 .entry)) (now (s2 .exit)) (now (s3 .entry)) (now (s3 .exit)) (now (s4 .entry)) (now (s4 .exit)) (now (s5 .entry)) (now (s5 .exit)) (now (s6 .entry)) (now (s6 .exit)) (now (edges .entry)) (now (edges .exit)) (now (distances .entry)) (now (distances .exit)) ⌝ }
+{
+    let answer = attempt(
+        points,
+        settings,
+        vertices,
+        faces,
+        s0,
+        s1,
+        s2,
+        s3,
+        s4,
+        s5,
+        s6,
+        edges,
+        distances,
+    );
+    let v = 3 * answer.vertices;
+    let w = 3 * answer.faces;
+    ending::tidy(
+        v,
+        w,
+        vertices,
+        faces,
+        s0,
+        s1,
+        s2,
+        s3,
+        s4,
+        s5,
+        s6,
+        edges,
+        distances,
+    );
+    answer
+}
+
+// The same with the default settings.
+pub fn poisson_reconstruction_default(
+    points: &[f32],
+    vertices: &mut [f32],
+    faces: &mut [u32],
+    s0: &mut [f32],
+    s1: &mut [f32],
+    s2: &mut [f32],
+    s3: &mut [f32],
+    s4: &mut [f32],
+    s5: &mut [f32],
+    s6: &mut [f32],
+    edges: &mut [u32],
+    distances: &mut [f32],
+) -> Answer
+    ensures { λ r. ⌜ Done (reconstructed (now (points .entry)) defaults (lengthsOf (now (vertices .entry)) (now (faces .entry)) (now (s0 .entry)) (now (s1 .entry)) (now (s2 .entry)) (now (s3 .entry)) (now (s4 .entry)) (now (s5 .entry)) (now (s6 .entry)) (now (edges .entry)) (now (distances .entry)))) r (now (vertices .entry)) (now (vertices .exit)) (now (faces .entry)) (now (faces .exit)) (now (s0 .entry)) (now (s0 .exit)) (now (s1 .entry)) (now (s1 .exit)) (now (s2 .entry)) (now (s2 .exit)) (now (s3 .entry)) (now (s3 .exit)) (now (s4 .entry)) (now (s4 .exit)) (now (s5 .entry)) (now (s5 .exit)) (now (s6 .entry)) (now (s6 .exit)) (now (edges .entry)) (now (edges .exit)) (now (distances .entry)) (now (distances .exit)) ⌝ }
+{
+    poisson_reconstruction(
+        points,
+        Settings::new(),
+        vertices,
+        faces,
+        s0,
+        s1,
+        s2,
+        s3,
+        s4,
+        s5,
+        s6,
+        edges,
+        distances,
+    )
+}

@@ -1,0 +1,80 @@
+-- What the first stages leave is what Reconstruction puts together: each stage's definition at the results of those before. By congruence, stage after stage. Assumes nothing.
+use mathlib.Core.Path.{_≡_, refl, sym, ap, _∙_, subst}
+use mathlib.Core.List.{List, [], _∷_}
+use Prim.Native.Nat.{ℕ, zero, suc, _+_, _*_, _^_, _≤_}
+use native.Mathlib.Nat.{mul-assoc, mul-comm, mul-mul-mul-comm, pow-succ'}
+use native.Mathlib.Omega.{arith}
+use lib.ListN.{length}
+use lib.Ieee.{Float}
+use Rattle.grid.specs.declared.Grid.{Grid}
+use Rattle.grid.specs.declared.Lattice.{Lattice}
+use Rattle.grid.specs.Grid.{Sides, Counts, gridOf, latticeOf}
+use Rattle.points.specs.declared.point.Point.{Point}
+use Rattle.points.specs.declared.bounds.Bounds.{Bounds}
+use Rattle.points.specs.Box.{boundsOf, extentOf, sideOf, originOf}
+use Rattle.points.specs.Spacing.{spacingOf}
+use Rattle.settings.specs.declared.Settings.{Settings}
+use Rattle.extract.specs.Extraction.{countX, countY, countZ}
+use Rattle.extract.specs.Passes.{Ready, Counted}
+use Rattle.extract.specs.declared.Totals.{Totals}
+use Rattle.surface.specs.Surface.{levelOf}
+use Rattle.levels.specs.declared.Problem.{Problem}
+use Rattle.levels.specs.Levels.{solution}
+use Rattle.scan.specs.Reconstruction.{problemFor, gridFor, latticeFor, fieldFor, levelFor}
+use Rattle.scan.specs.Stages.{GridOver}
+
+-- ---- N
+
+-- (2^d)^3 is 8^d
+pub cubed : (d : ℕ) → 2 ^ d * 2 ^ d * 2 ^ d ≡ 8 ^ d
+cubed zero = refl
+cubed (suc d) =
+    let t = 2 ^ d in
+    let twice : 2 ^ suc d ≡ 2 * t = pow-succ' 2 d in
+    let two : 2 * t * (2 * t) ≡ 4 * (t * t) = mul-mul-mul-comm 2 t 2 t in
+    let three : 4 * (t * t) * (2 * t) ≡ 8 * (t * t * t) = mul-mul-mul-comm 4 (t * t) 2 t in
+    ap (λ (k : ℕ). k * k * k) twice ∙ ap (λ (k : ℕ). k * (2 * t)) two ∙ three ∙ ap (λ (k : ℕ). 8 * k) (cubed d) ∙ sym (pow-succ' 8 d)
+
+pub nodes-cubed : {b : Bounds} {st : Settings} {g : Grid} → GridOver b st g → g .nodes * g .nodes * g .nodes ≡ 8 ^ st .depth
+unfolding gridOf
+nodes-cubed {b} {st} {g} o = ap (λ (h : Grid). h .nodes * h .nodes * h .nodes) (o .is) ∙ cubed (st .depth)
+
+pub lattice-size : (g : Grid) {l : Lattice} → l ≡ latticeOf g → countX l * countY l * countZ l ≡ g .nodes * g .nodes * g .nodes
+unfolding latticeOf
+lattice-size g {l} e = ap (λ (m : Lattice). countX m * countY m * countZ m) e
+
+-- ---- stage by stage
+
+pub field-is : (ps : List Point) (st : Settings) {b : Bounds} {problem : Problem} {extent : Float} {x : List Float}
+    → b ≡ boundsOf ps → problem .origin ≡ originOf b → problem .size ≡ sideOf b → extent ≡ extentOf b → problem .spacing ≡ spacingOf ps extent
+    → problem .smoothing ≡ st .smoothing → problem .cap ≡ st .«max_iterations» → problem .tolerance ≡ st .tolerance
+    → x ≡ solution problem ps (st .depth) → x ≡ fieldFor ps st
+unfolding fieldFor
+field-is ps st {b} {problem} {extent} {x} box origin side wide gap s c t e =
+    let same : problem ≡ problemFor ps st = λ i.
+    record {
+      origin = (origin ∙ ap originOf box) i;
+      size = (side ∙ ap sideOf box) i;
+      spacing = (gap ∙ ap (spacingOf ps) (wide ∙ ap extentOf box)) i;
+      smoothing = s i;
+      cap = c i;
+      tolerance = t i;
+    } in
+    e ∙ ap (λ (q : Problem). solution q ps (st .depth)) same
+
+pub grid-is : (ps : List Point) (st : Settings) {b : Bounds} {g : Grid} → b ≡ boundsOf ps → GridOver b st g → g ≡ gridFor ps st
+unfolding gridFor
+grid-is ps st box o = let e = o .is in cc
+
+pub level-is : (ps : List Point) (st : Settings) {g : Grid} {x : List Float} {level : Float}
+    → g ≡ gridFor ps st → x ≡ fieldFor ps st → level ≡ levelOf g x ps (st .«iso_offset») → level ≡ levelFor ps st
+unfolding levelFor
+level-is ps st grid field e = cc
+
+pub counted-is : (ps : List Point) (st : Settings) {g : Grid} {x : List Float} {l : Lattice} {level : Float} {table : List ℕ} {r : Totals}
+    → g ≡ gridFor ps st → x ≡ fieldFor ps st → l ≡ latticeOf g → level ≡ levelFor ps st → Counted x table l level r
+    → Counted (fieldFor ps st) table (latticeFor ps st) (levelFor ps st) r
+counted-is ps st {g} {x} {l} {level} {table} {r} grid field block top k =
+    let a = subst (λ (v : List Float). Counted v table l level r) field k in
+    let b = subst (λ (m : Lattice). Counted (fieldFor ps st) table m level r) (block ∙ ap latticeOf grid) a in
+    subst (λ (t : Float). Counted (fieldFor ps st) table (latticeFor ps st) t r) top b

@@ -1,0 +1,4 @@
+-- The whole call, and its stages: the definitions, what the stages ask and leave, then laws.
+pub mod Reconstruction
+pub mod Stages
+pub mod MeshRoom

@@ -1,0 +1,149 @@
+-- Document 01, the whole call: its modules' definitions put together in the order of the data's way, and nothing else; then its verdict in the order of
+-- checking, its answer, and what stands in the result slices. Definitions only; assumes nothing.
+use mathlib.Core.Bool.{cond}
+use mathlib.Core.List.{List, [], _∷_}
+use Prim.Native.Nat.{ℕ}
+use lib.ListN.{length}
+use lib.Ieee.{Float}
+use Rattle.closed.specs.Faces.{Face, corners}
+use Rattle.grid.specs.declared.Grid.{Grid}
+use Rattle.grid.specs.declared.Lattice.{Lattice}
+use Rattle.grid.specs.Grid.{gridOf, latticeOf}
+use Rattle.points.specs.declared.point.Point.{Point}
+use Rattle.points.specs.Points.{usables}
+use Rattle.points.specs.Box.{boundsOf, extentOf, sideOf, originOf}
+use Rattle.points.specs.Spacing.{spacingOf}
+use Rattle.settings.specs.declared.Settings.{Settings}
+use Rattle.settings.specs.declared.Lengths.{Lengths}
+use Rattle.settings.specs.declared.Answer.{Answer}
+use Rattle.settings.specs.declared.Verdict.{Verdict}
+use Rattle.settings.specs.Answers.{accepts, answerUnder}
+use Rattle.settings.specs.Refusals.{_then_, earlyVerdict, usableVerdict, extentVerdict, vertexRoomVerdict, faceRoomVerdict, roomVerdict, meshVerdict}
+use Rattle.levels.specs.declared.Problem.{Problem}
+use Rattle.levels.specs.Levels.{solution}
+use Rattle.trim.specs.Trim.{trimmedVertices, trimmedFaces}
+use Rattle.extract.specs.Extraction.{vertexEdges, edgeFaces, extractedVertices, extractedFaces}
+use Rattle.surface.specs.Surface.{levelOf, orientedFaces, vertexCount, boxOf}
+
+-- ---- the stages, over the usable points
+
+-- the largest extent of the points
+abbrev pub extentFor : (ps : List Point) → Float
+extentFor ps = extentOf (boundsOf ps)
+
+-- the grid over the cube round them
+unfoldable pub gridFor : (ps : List Point) → Settings → Grid
+gridFor ps st = gridOf (originOf (boundsOf ps)) (sideOf (boundsOf ps)) (st .depth)
+
+abbrev pub latticeFor : (ps : List Point) → Settings → Lattice
+latticeFor ps st = latticeOf (gridFor ps st)
+
+-- what the solver is asked
+abbrev pub problemFor : (ps : List Point) → Settings → Problem
+problemFor ps st =
+    record {
+      origin = originOf (boundsOf ps);
+      size = sideOf (boundsOf ps);
+      spacing = spacingOf ps (extentFor ps);
+      smoothing = st .smoothing;
+      cap = st .«max_iterations»;
+      tolerance = st .tolerance;
+    }
+
+-- the solver's field, one value a node
+unfoldable pub fieldFor : (ps : List Point) → Settings → List Float
+fieldFor ps st = solution (problemFor ps st) ps (st .depth)
+
+-- the level
+unfoldable pub levelFor : (ps : List Point) → Settings → Float
+levelFor ps st = levelOf (gridFor ps st) (fieldFor ps st) ps (st .«iso_offset»)
+
+-- the untrimmed mesh: extracted at the level, then oriented
+unfoldable pub wholeVertices : (ps : List Point) → Settings → List Float
+wholeVertices ps st = extractedVertices (fieldFor ps st) (latticeFor ps st) (levelFor ps st)
+
+unfoldable pub wholeFaces : (ps : List Point) → Settings → List Face
+wholeFaces ps st =
+    orientedFaces (gridFor ps st) (fieldFor ps st) (wholeVertices ps st) (extractedFaces (fieldFor ps st) (latticeFor ps st) (levelFor ps st))
+
+-- its V and F
+unfoldable pub vertexTotal : (ps : List Point) → Settings → ℕ
+vertexTotal ps st = length (vertexEdges (fieldFor ps st) (latticeFor ps st) (levelFor ps st))
+
+unfoldable pub faceTotal : (ps : List Point) → Settings → ℕ
+faceTotal ps st = length (edgeFaces (fieldFor ps st) (latticeFor ps st) (levelFor ps st))
+
+-- the mesh that is returned: after trimming
+unfoldable pub keptVertices : (ps : List Point) → Settings → List Float
+keptVertices ps st = trimmedVertices (st .trimming) ps (wholeVertices ps st) (wholeFaces ps st)
+
+unfoldable pub keptFaces : (ps : List Point) → Settings → List Face
+keptFaces ps st = trimmedFaces (st .trimming) ps (wholeVertices ps st) (wholeFaces ps st)
+
+-- ---- what is measured on the way, and the verdict: 7, 1, 2, 3, 8, 4, 5, 9, 10, 6
+
+pub record Measured : Type 0 where
+  pub verdict : Verdict
+  pub usable : ℕ
+  pub extent : Float
+  -- of the untrimmed mesh
+  pub vertices : ℕ
+  pub faces : ℕ
+
+-- 9, 10, then 6 before and after trimming
+unfoldable pub lateVerdict : (ps : List Point) → Settings → Lengths → Verdict
+lateVerdict ps st lent =
+    vertexRoomVerdict (vertexTotal ps st) lent
+    then faceRoomVerdict (faceTotal ps st) lent
+    then meshVerdict (faceTotal ps st)
+    then meshVerdict (length (keptFaces ps st))
+
+unfoldable pub verdictOf : (xs : List Float) → Settings → Lengths → Verdict
+verdictOf xs st lent =
+    earlyVerdict xs st lent
+    then usableVerdict (length (usables xs))
+    then extentVerdict (extentFor (usables xs))
+    then lateVerdict (usables xs) st lent
+
+unfoldable pub measured : (xs : List Float) → Settings → Lengths → Measured
+measured xs st lent =
+    record {
+      verdict = verdictOf xs st lent;
+      usable = length (usables xs);
+      extent = extentFor (usables xs);
+      vertices = vertexTotal (usables xs) st;
+      faces = faceTotal (usables xs) st;
+    }
+
+-- ---- the answer and the results
+
+-- of a call that is accepted: V, F and box are those of the mesh that is returned
+unfoldable pub acceptedAnswer : (ps : List Point) → Settings → Answer
+acceptedAnswer ps st =
+    record {
+      number = 0;
+      usable = length ps;
+      vertices = vertexCount (keptVertices ps st);
+      faces = length (keptFaces ps st);
+      level = levelFor ps st;
+      low = boxOf (keptVertices ps st) .low;
+      high = boxOf (keptVertices ps st) .high;
+    }
+
+-- an answer, and what stands at the front of the two result slices
+pub record Results : Type 0 where
+  pub answer : Answer
+  pub vertices : List Float
+  pub faces : List ℕ
+
+-- a refusal has no mesh
+abbrev pub resultsUnder : Verdict → (ps : List Point) → Settings → Results
+resultsUnder v ps st =
+    record {
+      answer = answerUnder v (acceptedAnswer ps st);
+      vertices = cond (accepts v) (keptVertices ps st) [];
+      faces = cond (accepts v) (corners (keptFaces ps st)) [];
+    }
+
+unfoldable pub reconstructed : (xs : List Float) → Settings → Lengths → Results
+reconstructed xs st lent = resultsUnder (measured xs st lent .verdict) (usables xs) st
