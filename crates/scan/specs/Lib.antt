@@ -2,3 +2,4 @@
 pub mod Reconstruction
 pub mod Stages
 pub mod MeshRoom
+pub mod NanOffset
