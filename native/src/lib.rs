@@ -3,6 +3,7 @@
 
 pub mod brute;
 pub mod clock;
+pub mod extract;
 pub mod points;
 
 mod exported {

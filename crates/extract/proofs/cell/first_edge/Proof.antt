@@ -1,4 +1,4 @@
--- `extract::cell::edge_offset` meets its contract.
+-- `extract::cell::first_edge` meets its contract.
 -- Assumes nothing.
 use mathlib.Core.Path.{sym, subst, _∙_}
 use Prim.Native.Nat.{ℕ, _<_}
@@ -9,8 +9,8 @@ use Rattle.cubes.specs.Edges.{low-small, axis-small}
 use Rattle.extract.specs.Extraction.{countY, countZ}
 use Rattle.extract.proofs.Cells.{corner-inside, offset-is}
 use borrow.Author.Needs.{needs}
-use Rattle.extract.proofs.cell.edge_offset.Statement.{statement}
-use Rattle.extract.proofs.cell.edge_offset.Tie as tie
+use Rattle.extract.proofs.cell.first_edge.Statement.{statement}
+use Rattle.extract.proofs.cell.first_edge.Tie as tie
 
 low-of-requires : tie.Need-low-of-requires
 low-of-requires c κs = search needs
@@ -36,23 +36,15 @@ of-requires c κs =
       omega (arith, c .axis-of .ensures, axis-small (s .args .e) (s .pre .1)),
     )
 
-place-requires : tie.Need-place-requires
-place-requires c κs = search needs
-
 returns : tie.Need-returns
 returns c =
-    let s = c .before .before .before .before .before .before in
-    let low = c .before .before .before .before .before .low-of in
-    let place = c .before .before .before .before .corner in
-    let n = c .before .before .before .node in
-    let axis = c .before .before .axis-of in
-    c .place .ensures
-    ∙ c .before .of .ensures
-    ∙ offset-is (countY (s .args .lattice)) (countZ (s .args .lattice)) (s .args .e) (low .result) (axis .result) (n .result .0) (place .result)
-    (low .ensures) (place .ensures) (n .ensures) (axis .ensures)
+    let s = c .before .before .before .before .before in
+    c .of .ensures
+    ∙ offset-is (countY (s .args .lattice)) (countZ (s .args .lattice)) (s .args .e) (c .before .before .before .before .low-of .result) (c .before .axis-of .result) (c .before .before .node .result .0) (c .before .before .before .corner .result)
+    (c .before .before .before .before .low-of .ensures) (c .before .before .before .corner .ensures) (c .before .before .node .ensures) (c .before .axis-of .ensures)
 
-pub edge-offset-spec : {M : Type 1} → statement M
-edge-offset-spec =
+pub first-edge-spec : {M : Type 1} → statement M
+first-edge-spec =
     tie.close
     (tie.spec
     low-of-requires
@@ -60,5 +52,4 @@ edge-offset-spec =
     node-requires
     axis-of-requires
     of-requires
-    place-requires
     returns)
