@@ -4,6 +4,7 @@
 pub mod brute;
 pub mod clock;
 pub mod points;
+pub mod solver;
 
 mod exported {
     extern "C" {
