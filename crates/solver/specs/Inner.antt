@@ -33,11 +33,15 @@ pub record Left (g : Grid) (solution x r p ap : List Float) : Type 0 where
   pub of-p : p ≡ zeros32 (allNodes g)
   pub of-ap : ap ≡ zeros32 (allNodes g)
 
--- a step by alpha: what it leaves as x', r' and p', and the rr' that it answers
-pub record Updated (g : Grid) (alpha rr : Float) (x r p ap x' r' p' : List Float) (rr' : Float) : Type 0 where
+-- the first half of a step by alpha: what it leaves as x' and r', and the rr' that it answers
+pub record Advanced (g : Grid) (alpha : Float) (x r p ap x' r' : List Float) (rr' : Float) : Type 0 where
   pub of-x : x' ≡ tabulate (allNodes g) (plusAt alpha x p)
   pub of-r : r' ≡ tabulate (allNodes g) (minusAt alpha r ap)
   pub of-rr : rr' ≡ dotted g r' r'
+
+-- the whole step: p' too
+pub record Updated (g : Grid) (alpha rr : Float) (x r p ap x' r' p' : List Float) (rr' : Float) : Type 0 where
+  pub advanced : Advanced g alpha x r p ap x' r' rr'
   pub of-p : p' ≡ tabulate (allNodes g) (plusAt (narrowed (div binary64 rr' rr)) r' p)
 
 -- what a turn from s answers and leaves as x', r' and p': `On`, that s does not stop, and the next state; `Done`, that x' is what any number of steps from here gives

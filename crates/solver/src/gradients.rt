@@ -5,12 +5,11 @@ ghost use denote.Ref.{now};
 ghost use Rattle.solver.specs.Solver.{allNodes, started, steps, conjugate};
 ghost use Rattle.solver.specs.Inner.{Sized, Left, Updated, Turned};
 use crate::laplacian::apply;
-use crate::vectors::axpy;
+use crate::vectors::advance;
 use crate::vectors::copy;
 use crate::vectors::dot;
 use crate::vectors::less;
 use crate::vectors::squares;
-use crate::vectors::take_from;
 use crate::vectors::xpay;
 use grid::Grid;
 
@@ -33,9 +32,7 @@ fn update(
     requires { ⌜ Sized g (now x) (now r) (now p) (now ap) ⌝ }
     ensures { λ t. ⌜ Updated g alpha rr (now (x .entry)) (now (r .entry)) (now (p .entry)) (now (ap .entry)) (now (x .exit)) (now (r .exit)) (now (p .exit)) t ⌝ }
 {
-    axpy(x, p, alpha);
-    take_from(r, ap, alpha);
-    let rr_new = squares(g, r);
+    let rr_new = advance(g, x, r, p, ap, alpha);
     let beta = arith::narrow(rr_new / rr);
     xpay(p, r, beta);
     rr_new
