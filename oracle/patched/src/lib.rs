@@ -17,9 +17,10 @@ mod parallel;
 #[allow(dead_code, unused, clippy::all)]
 mod poisson {
     include!(concat!(env!("OUT_DIR"), "/poisson.rs"));
+    pub mod loops;
 }
 
-pub use poisson::PoissonConfig;
+pub use poisson::{loops, PoissonConfig};
 pub use window::Seen;
 
 use std::time::Duration;
