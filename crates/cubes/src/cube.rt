@@ -39,7 +39,7 @@ pub fn corner(c: usize) -> [usize; 3]
 }
 
 // The two corners that edge e joins.
-pub fn ends(e: usize) -> [usize; 2]
+fn ends(e: usize) -> [usize; 2]
     requires { ⌜ e < 12 ⌝ }
     ensures { λ r. ⌜ pairOf r ≡ endsOf e ⌝ }
 {

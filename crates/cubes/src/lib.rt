@@ -6,7 +6,6 @@ mod table;
 
 pub use cube::axis_of;
 pub use cube::corner;
-pub use cube::ends;
 pub use cube::low_of;
 pub use rows::row_face;
 pub use rows::row_faces;

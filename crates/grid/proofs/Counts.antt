@@ -2,7 +2,7 @@
 use mathlib.Core.Path.{_≡_, refl, ap, _∙_}
 use mathlib.Core.List.{List, [], _∷_}
 use Prim.Native.Nat.{ℕ, _-_, _*_, _%_, _^_, _≤_, _<_, min}
-use native.Mathlib.Nat.{le-trans, le-mul-of-pos-right, one-mul, mod-eq-of-lt}
+use native.Mathlib.Nat.{one-mul, mod-eq-of-lt}
 use native.Mathlib.Omega.{arith}
 use lib.Dec.{T, le→leb}
 use lib.IntN.{pos}
@@ -28,9 +28,6 @@ shifted {d} most =
 
 pub sides : {d : ℕ} → 1 ≤ d → d ≤ 8 → Sides (2 ^ d)
 sides least most = record { two = pow-mono least; most = pow-mono most }
-
-pub two-of-three : (a b c : ℕ) → 2 ≤ c → a * b * c ≤ 16777216 → a * b ≤ 16777216
-two-of-three a b c two most = let h : 0 < c = omega arith in le-trans (le-mul-of-pos-right (a * b) h) most
 
 -- ---- the cell
 

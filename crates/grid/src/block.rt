@@ -1,6 +1,5 @@
 // The Lattice: a block of nodes with a count and a step per axis.
 ghost use mathlib.Core.Path.{_≡_};
-ghost use Prim.Native.Nat.{_*_, _<_};
 ghost use lib.ListN.{getD};
 ghost use Rattle.grid.specs.Grid.{Counts, Position, nodeAt, coordsOf};
 use crate::Lattice;
@@ -9,14 +8,6 @@ use crate::numbering::coords_of;
 use crate::numbering::node_at;
 
 impl Lattice {
-    // How many nodes there are.
-    pub fn len(self) -> usize
-        requires { ⌜ Counts (self .counts) ⌝ }
-        ensures { λ r. ⌜ r ≡ getD (self .counts) 0 0 * getD (self .counts) 1 0 * getD (self .counts) 2 0 ⌝ }
-    {
-        self.counts[0] * self.counts[1] * self.counts[2]
-    }
-
     // The node at a position.
     pub fn node(self, at: [usize; 3]) -> Node
         requires { ⌜ Counts (self .counts) ⌝ }

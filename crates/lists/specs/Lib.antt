@@ -1,4 +1,4 @@
--- Lists that stand for slices: the definitions, then the laws, a file for each definition.
+-- Lists that stand for slices: the definitions, then the laws, a file for each definition; last, when no second outcome fits a contract.
 pub mod Lists
 pub mod Order
 pub mod Tabulate
@@ -7,3 +7,4 @@ pub mod Part
 pub mod Prefix
 pub mod Padded
 pub mod Fold
+pub mod OneAnswer
