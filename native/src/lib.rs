@@ -3,7 +3,9 @@
 
 pub mod brute;
 pub mod clock;
+pub mod extract;
 pub mod points;
+pub mod solver;
 
 mod exported {
     extern "C" {

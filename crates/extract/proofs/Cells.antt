@@ -15,14 +15,14 @@ use Rattle.closed.specs.Faces.{Face, face, mapFace, corners}
 use Rattle.closed.specs.Table.{cornerAt, lowOf, axisOf, caseOf}
 use Rattle.closed.specs.Rows.{emitted}
 use Rattle.closed.specs.Grid.{node, edge, cornerBelow, cellCase, cellEdge, cellFaces, gridFaces}
-use Rattle.closed.specs.Counting.{cells-cong, all-map}
+use Rattle.closed.specs.Counting.{bit-le, cells-cong, all-map}
 use Rattle.closed.specs.Bounds.{caseOf-lt}
 use Rattle.grid.specs.Grid.{Counts, Position, nodeAt}
 use Rattle.cubes.specs.Cube.{placeOf}
 use Rattle.cubes.specs.Edges.{in-cube, axis-small}
 use Rattle.cubes.specs.Emitted.{emitted-edges}
 use Rattle.extract.specs.Extraction.{isBelow, belowAt}
-use Rattle.extract.specs.Passes.{nodeOffset, edgeOffset, caseAt, rowFaces, offsetsOf, facesAt, lineFaces, planeFaces, blockFaces}
+use Rattle.extract.specs.Passes.{nodeOffset, edgeOffset, sideAt, caseAt, rowFaces, offsetsOf, facesAt, lineFaces, planeFaces, blockFaces}
 
 -- ---- numbers of nodes add up
 
@@ -44,29 +44,35 @@ pub case-below : (values : List Float) (ny nz : ℕ) (iso : Float) (n : ℕ) →
 unfolding caseAt
 case-below values ny nz iso n = caseOf-lt (λ c. isBelow (at values (n + nodeOffset ny nz c)) iso)
 
--- as code reads it: b and i are the bits and the places of the eight corners
+-- as code makes it: the near side, and sixteen times the far one
 module _ (values : List Float) (ny nz : ℕ) (iso : Float) (n : ℕ) where
-  corner-bit : (c i b : ℕ) → i ≡ n + nodeOffset ny nz c → b ≡ bit (isBelow (at values i) iso) → b ≡ bit (isBelow (at values (n + nodeOffset ny nz c)) iso)
-  corner-bit c i b e h = h ∙ ap (λ (m : ℕ). bit (isBelow (at values m) iso)) e
-
-  pub case-is : (b0 b1 b2 b3 b4 b5 b6 b7 : ℕ)
-      → b0 ≡ bit (isBelow (at values n) iso) → b1 ≡ bit (isBelow (at values (n + ny * nz)) iso)
-      → b2 ≡ bit (isBelow (at values (n + ny * nz + nz)) iso) → b3 ≡ bit (isBelow (at values (n + nz)) iso)
-      → b4 ≡ bit (isBelow (at values (n + 1)) iso) → b5 ≡ bit (isBelow (at values (n + ny * nz + 1)) iso)
-      → b6 ≡ bit (isBelow (at values (n + ny * nz + nz + 1)) iso) → b7 ≡ bit (isBelow (at values (n + nz + 1)) iso)
-      → b0 + 2 * b1 + 4 * b2 + 8 * b3 + 16 * (b4 + 2 * b5 + 4 * b6 + 8 * b7) ≡ caseAt values ny nz iso n
-  unfolding caseAt
-  case-is b0 b1 b2 b3 b4 b5 b6 b7 h0 h1 h2 h3 h4 h5 h6 h7 =
+  pub side-small : sideAt values ny nz iso n ≤ 15
+  unfolding sideAt
+  side-small =
       omega (
         arith,
-        corner-bit 0 n b0 (omega (arith, flat ny nz 0 0 0)) h0,
-        corner-bit 1 (n + ny * nz) b1 (omega (arith, flat ny nz 1 0 0)) h1,
-        corner-bit 2 (n + ny * nz + nz) b2 (omega (arith, flat ny nz 1 1 0)) h2,
-        corner-bit 3 (n + nz) b3 (omega (arith, flat ny nz 0 1 0)) h3,
-        corner-bit 4 (n + 1) b4 (omega (arith, flat ny nz 0 0 1)) h4,
-        corner-bit 5 (n + ny * nz + 1) b5 (omega (arith, flat ny nz 1 0 1)) h5,
-        corner-bit 6 (n + ny * nz + nz + 1) b6 (omega (arith, flat ny nz 1 1 1)) h6,
-        corner-bit 7 (n + nz + 1) b7 (omega (arith, flat ny nz 0 1 1)) h7,
+        bit-le (isBelow (at values n) iso),
+        bit-le (isBelow (at values (n + ny * nz)) iso),
+        bit-le (isBelow (at values (n + ny * nz + nz)) iso),
+        bit-le (isBelow (at values (n + nz)) iso),
+      )
+
+  corner-bit : (c i : ℕ) → i ≡ n + nodeOffset ny nz c → bit (isBelow (at values i) iso) ≡ bit (isBelow (at values (n + nodeOffset ny nz c)) iso)
+  corner-bit c i e = ap (λ (m : ℕ). bit (isBelow (at values m) iso)) e
+
+  pub two-sides : (near far : ℕ) → near ≡ sideAt values ny nz iso n → far ≡ sideAt values ny nz iso (n + 1) → near + 16 * far ≡ caseAt values ny nz iso n
+  unfolding caseAt sideAt
+  two-sides near far e f =
+      omega (
+        arith,
+        corner-bit 0 n (omega (arith, flat ny nz 0 0 0)),
+        corner-bit 1 (n + ny * nz) (omega (arith, flat ny nz 1 0 0)),
+        corner-bit 2 (n + ny * nz + nz) (omega (arith, flat ny nz 1 1 0)),
+        corner-bit 3 (n + nz) (omega (arith, flat ny nz 0 1 0)),
+        corner-bit 4 (n + 1) (omega (arith, flat ny nz 0 0 1)),
+        corner-bit 5 (n + 1 + ny * nz) (omega (arith, flat ny nz 1 0 1)),
+        corner-bit 6 (n + 1 + ny * nz + nz) (omega (arith, flat ny nz 1 1 1)),
+        corner-bit 7 (n + 1 + nz) (omega (arith, flat ny nz 0 1 1)),
       )
 
 -- ---- the edges of a cell

@@ -3,5 +3,6 @@ pub mod FirstPlace
 pub mod FirstUse
 pub mod Marking
 pub mod Placing
+pub mod Plain
 pub mod Points
 pub mod Rows

@@ -9,7 +9,7 @@ use lib.Ieee.{Float}
 use lib.ListN.{length, getD, set}
 use lib.Seq.{sets}
 use Rattle.lists.specs.Lists.{at, tabulate}
-use Rattle.closed.specs.Lists.{cells}
+use Rattle.closed.specs.Lists.{bit, sum, cells}
 use Rattle.closed.specs.Faces.{Face, mapFace, corners}
 use Rattle.closed.specs.Numbering.{slot}
 use Rattle.closed.specs.Table.{cornerAt, lowOf, axisOf, caseOf}
@@ -28,6 +28,18 @@ nodeOffset ny nz c = node ny nz (cornerAt c .0) (cornerAt c .1) (cornerAt c .2)
 
 abbrev pub edgeOffset : (ny nz e : ℕ) → ℕ
 edgeOffset ny nz e = edge (nodeOffset ny nz (lowOf e)) (axisOf e)
+
+-- the bits of the side of cells at node n: corners 0 to 3 of the cell there
+unfoldable pub sideAt : (values : List Float) (ny nz : ℕ) (iso : Float) (n : ℕ) → ℕ
+sideAt values ny nz iso n =
+    bit (isBelow (at values n) iso)
+    + 2 * bit (isBelow (at values (n + ny * nz)) iso)
+    + 4 * bit (isBelow (at values (n + ny * nz + nz)) iso)
+    + 8 * bit (isBelow (at values (n + nz)) iso)
+
+-- how many of the nz nodes from n on are below
+abbrev pub belowIn : (values : List Float) (nz : ℕ) (iso : Float) (n : ℕ) → ℕ
+belowIn values nz iso n = sum nz (λ k. bit (isBelow (at values (n + k)) iso))
 
 unfoldable pub caseAt : (values : List Float) (ny nz : ℕ) (iso : Float) (n : ℕ) → ℕ
 caseAt values ny nz iso n = caseOf (λ c. isBelow (at values (n + nodeOffset ny nz c)) iso)

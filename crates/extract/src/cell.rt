@@ -1,13 +1,16 @@
 // A cell: its case, by the values at its corners, and its edges. Cells are named by the number of their corner 0, so that the loops only add.
 ghost use mathlib.Core.Path.{_≡_};
-ghost use Prim.Native.Nat.{_+_, _*_, _<_, _≤_};
+ghost use mathlib.Core.Bool.{true};
+ghost use mathlib.Core.List.{[]};
+ghost use Prim.Native.Nat.{_+_, _-_, _*_, _<_, _≤_};
 ghost use lib.ListN.{length, getD};
 ghost use Rattle.closed.specs.Lists.{bit};
 ghost use Rattle.grid.specs.Grid.{Counts};
 ghost use Rattle.extract.specs.Extraction.{isBelow, countY, countZ};
-ghost use Rattle.extract.specs.Passes.{caseAt, edgeOffset, offsetsOf};
+ghost use Rattle.extract.specs.Passes.{sideAt, belowIn, lineFaces, edgeOffset, offsetsOf};
 use grid::Edge;
 use grid::Lattice;
+use grid::Node;
 
 // "Bit c of the case is set when corner c's value is less than iso. Neither equality nor NaN sets it."
 pub fn below(value: f32, iso: f32) -> bool
@@ -22,51 +25,79 @@ fn bit_of(value: f32, iso: f32) -> usize
     if below(value, iso) { 1 } else { 0 }
 }
 
-// The case of the cell at node n. Its corners are read by their offsets, in the order of the corner list.
-pub fn case_of(values: &[f32], ny: usize, nz: usize, n: usize, iso: f32) -> usize
-    requires { ⌜ n + ny * nz + nz + 1 < length (now values) ⌝ }
-    ensures { λ r. ⌜ r ≡ caseAt (now (values .entry)) ny nz iso n ⌝ }
+// The bits of the side of cells at a node: corners 0, 1, 2, 3 of the cell there, in the order of the corner list, and corners 4, 5, 6, 7 of the cell before. A case is
+// a near side and sixteen times the far one, so a line of cells reads each side once.
+pub fn side_of(values: &[f32], ny: usize, nz: usize, node: Node, iso: f32) -> usize
+    requires { ⌜ node .0 + ny * nz + nz < length (now values) ⌝ }
+    ensures { λ r. ⌜ r ≡ sideAt (now (values .entry)) ny nz iso (node .0) ⌝ }
 {
+    let n = node.place();
     let plane = n + ny * nz;
-    let near = bit_of(values[n], iso)
+    bit_of(values[n], iso)
         + 2 * bit_of(values[plane], iso)
         + 4 * bit_of(values[plane + nz], iso)
-        + 8 * bit_of(values[n + nz], iso);
-    let far = bit_of(values[n + 1], iso)
-        + 2 * bit_of(values[plane + 1], iso)
-        + 4 * bit_of(values[plane + nz + 1], iso)
-        + 8 * bit_of(values[n + nz + 1], iso);
-    near + 16 * far
+        + 8 * bit_of(values[n + nz], iso)
 }
 
-// The number of edge e of the cell at node 0: how much greater edge e's number is than 3·n in the cell at node n.
-fn edge_offset(lattice: Lattice, e: usize) -> usize
+// How many nodes of a row are below. The count is a u32, which makes the loop vector code.
+fn count_below(values: &[f32], first: Node, nz: usize, iso: f32) -> usize
+    requires { ⌜ (first .0 + nz ≤ length (now values)) × (length (now values) ≤ 16777216) ⌝ }
+    ensures { λ r. ⌜ r ≡ belowIn (now (values .entry)) nz iso (first .0) ⌝ }
+{
+    let mut count = 0u32;
+    let mut k = 0usize;
+    while k < nz {
+        count += bit_of(values[first.0 + k], iso) as u32;
+        k += 1;
+    }
+    count as usize
+}
+
+// Whether the four rows of nodes round the line of cells from a node on are all below or all not. Then its cases are 0 or 255 and it has no face; only this is
+// promised, for it only saves going through the cells.
+pub fn is_plain(values: &[f32], ny: usize, nz: usize, from: Node, iso: f32) -> bool
+    requires { ⌜ (from .0 + ny * nz + nz + nz ≤ length (now values)) × (length (now values) ≤ 16777216) ⌝ }
+    ensures { λ r. ⌜ (r ≡ true → lineFaces (now (values .entry)) ny nz iso (from .0) (nz - 1) ≡ []) ⌝ }
+{
+    let plane = from.0 + ny * nz;
+    let count = count_below(values, from, nz, iso)
+        + count_below(values, Node::of(plane), nz, iso)
+        + count_below(values, Node::of(plane + nz), nz, iso)
+        + count_below(values, Node::of(from.0 + nz), nz, iso);
+    if count == 0 {
+        return true;
+    }
+    count == 4 * nz
+}
+
+// Edge e of the cell at node 0.
+fn first_edge(lattice: Lattice, e: usize) -> Edge
     requires { ⌜ Counts (lattice .counts) × (e < 12) ⌝ }
-    ensures { λ r. ⌜ r ≡ edgeOffset (countY lattice) (countZ lattice) e ⌝ }
+    ensures { λ r. ⌜ r .0 ≡ edgeOffset (countY lattice) (countZ lattice) e ⌝ }
 {
     let at = cubes::corner(cubes::low_of(e));
     let node = lattice.node(at);
-    Edge::of(node, cubes::axis_of(e)).place()
+    Edge::of(node, cubes::axis_of(e))
 }
 
-// All twelve, made once and lent down.
+// How much greater the number of each of the twelve edges is than 3·n in the cell at node n, made once and lent down.
 pub fn edge_offsets(lattice: Lattice) -> [usize; 12]
     requires { ⌜ Counts (lattice .counts) ⌝ }
     ensures { λ r. ⌜ r ≡ offsetsOf (countY lattice) (countZ lattice) ⌝ }
 {
     [
-        edge_offset(lattice, 0),
-        edge_offset(lattice, 1),
-        edge_offset(lattice, 2),
-        edge_offset(lattice, 3),
-        edge_offset(lattice, 4),
-        edge_offset(lattice, 5),
-        edge_offset(lattice, 6),
-        edge_offset(lattice, 7),
-        edge_offset(lattice, 8),
-        edge_offset(lattice, 9),
-        edge_offset(lattice, 10),
-        edge_offset(lattice, 11),
+        first_edge(lattice, 0).place(),
+        first_edge(lattice, 1).place(),
+        first_edge(lattice, 2).place(),
+        first_edge(lattice, 3).place(),
+        first_edge(lattice, 4).place(),
+        first_edge(lattice, 5).place(),
+        first_edge(lattice, 6).place(),
+        first_edge(lattice, 7).place(),
+        first_edge(lattice, 8).place(),
+        first_edge(lattice, 9).place(),
+        first_edge(lattice, 10).place(),
+        first_edge(lattice, 11).place(),
     ]
 }
 

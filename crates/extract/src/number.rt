@@ -7,9 +7,10 @@ ghost use Rattle.closed.specs.Faces.{faceOf, mapFace, corners};
 ghost use Rattle.closed.specs.Rows.{flatTable, emitted};
 ghost use Rattle.extract.specs.Passes.{mark1, markAll, rowFaces, caseAt, lineFaces, planeFaces, blockFaces, offsetsOf, EdgesIn, CubeFace, Few, none, Numbered, Line, Plane, Block, Ready, Counted};
 use crate::Totals;
-use crate::cell::case_of;
 use crate::cell::cell_edge;
 use crate::cell::edge_offsets;
+use crate::cell::is_plain;
+use crate::cell::side_of;
 use grid::Edge;
 use grid::Lattice;
 use grid::Node;
@@ -92,56 +93,79 @@ fn number_cell(
     }
 }
 
-// The cells of a line from node n on, along the last axis.
-fn number_line(
+// The cells of a line from a node on, along the last axis, one after the other.
+fn number_cells(
     table: &mut [u32],
     values: &[f32],
     ny: usize,
     nz: usize,
-    n: usize,
+    from: Node,
     iso: f32,
     had: Totals,
     offsets: &[usize; 12],
     triangles: &[i8; 4096],
 ) -> Totals
-    requires { ⌜ Line (now values) (now table) ny nz n had × (now offsets ≡ offsetsOf ny nz) × (now triangles ≡ flatTable) ⌝ }
-    ensures { λ r. ⌜ Numbered (now (table .entry)) (now (table .exit)) had r (lineFaces (now (values .entry)) ny nz iso n (nz - 1)) × Few r (n + nz) ⌝ }
+    requires { ⌜ Line (now values) (now table) ny nz (from .0) had × (now offsets ≡ offsetsOf ny nz) × (now triangles ≡ flatTable) ⌝ }
+    ensures { λ r. ⌜ Numbered (now (table .entry)) (now (table .exit)) had r (lineFaces (now (values .entry)) ny nz iso (from .0) (nz - 1)) × Few r (from .0 + nz) ⌝ }
 {
+    let mut near = side_of(values, ny, nz, from, iso);
     let mut vertices = had.vertices;
     let mut faces = had.faces;
     let mut k = 0usize;
     while k + 1 < nz {
-        let case = case_of(values, ny, nz, n + k, iso);
-        let first = Edge::of(Node::of(n + k), 0);
+        let far = side_of(values, ny, nz, Node::of(from.0 + k + 1), iso);
+        let first = Edge::of(Node::of(from.0 + k), 0);
         let got = number_cell(
             table,
             first,
-            case,
+            near + 16 * far,
             Totals { vertices, faces },
             offsets,
             triangles,
         );
         vertices = got.vertices;
         faces = got.faces;
+        near = far;
         k += 1;
     }
     Totals { vertices, faces }
 }
 
-// The lines of a plane from node n on, along the middle axis.
-fn number_plane(
+// The same, if it has a face.
+fn number_line(
     table: &mut [u32],
     values: &[f32],
     ny: usize,
     nz: usize,
-    n: usize,
+    from: Node,
     iso: f32,
     had: Totals,
     offsets: &[usize; 12],
     triangles: &[i8; 4096],
 ) -> Totals
-    requires { ⌜ Plane (now values) (now table) ny nz n had × (now offsets ≡ offsetsOf ny nz) × (now triangles ≡ flatTable) ⌝ }
-    ensures { λ r. ⌜ Numbered (now (table .entry)) (now (table .exit)) had r (planeFaces (now (values .entry)) ny nz iso n (ny - 1)) × Few r (n + ny * nz) ⌝ }
+    requires { ⌜ Line (now values) (now table) ny nz (from .0) had × (now offsets ≡ offsetsOf ny nz) × (now triangles ≡ flatTable) ⌝ }
+    ensures { λ r. ⌜ Numbered (now (table .entry)) (now (table .exit)) had r (lineFaces (now (values .entry)) ny nz iso (from .0) (nz - 1)) × Few r (from .0 + nz) ⌝ }
+{
+    if is_plain(values, ny, nz, from, iso) {
+        return had;
+    }
+    number_cells(table, values, ny, nz, from, iso, had, offsets, triangles)
+}
+
+// The lines of a plane from a node on, along the middle axis.
+fn number_plane(
+    table: &mut [u32],
+    values: &[f32],
+    ny: usize,
+    nz: usize,
+    from: Node,
+    iso: f32,
+    had: Totals,
+    offsets: &[usize; 12],
+    triangles: &[i8; 4096],
+) -> Totals
+    requires { ⌜ Plane (now values) (now table) ny nz (from .0) had × (now offsets ≡ offsetsOf ny nz) × (now triangles ≡ flatTable) ⌝ }
+    ensures { λ r. ⌜ Numbered (now (table .entry)) (now (table .exit)) had r (planeFaces (now (values .entry)) ny nz iso (from .0) (ny - 1)) × Few r (from .0 + ny * nz) ⌝ }
 {
     let mut vertices = had.vertices;
     let mut faces = had.faces;
@@ -152,7 +176,7 @@ fn number_plane(
             values,
             ny,
             nz,
-            n + j * nz,
+            Node::of(from.0 + j * nz),
             iso,
             Totals { vertices, faces },
             offsets,
@@ -188,7 +212,7 @@ fn number_planes(
             values,
             ny,
             nz,
-            i * (ny * nz),
+            Node::of(i * (ny * nz)),
             iso,
             Totals { vertices, faces },
             offsets,

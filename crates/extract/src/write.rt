@@ -9,13 +9,15 @@ ghost use Rattle.grid.specs.Grid.{Counts};
 ghost use Rattle.extract.specs.Extraction.{countX, countY, countZ, edgePoint};
 ghost use Rattle.extract.specs.Passes.{place1, vertexIn, rowFaces, lineFaces, planeFaces, blockFaces, offsetsOf, CubeFace, EdgesOf, Inner, Inside, Room, Written, none, Sized, Mesh};
 use crate::Totals;
-use crate::cell::case_of;
 use crate::cell::cell_edge;
 use crate::cell::edge_offsets;
+use crate::cell::is_plain;
+use crate::cell::side_of;
 use crate::point::point;
 use grid::Edge;
 use grid::Lattice;
 use grid::Node;
+use grid::Vertex;
 
 // At the first use of its edge a vertex's number is how many are written: its coordinates come next. The answer is how many are written then.
 fn place(
@@ -41,15 +43,15 @@ fn place(
 }
 
 // The vertex of an edge: one less than the table's entry.
-fn vertex_of(table: &[u32], edge: Edge) -> u32
+fn vertex_of(table: &[u32], edge: Edge) -> Vertex
     requires { ⌜ edge .0 < length (now table) ⌝ }
-    ensures { λ r. ⌜ r ≡ vertexIn (now (table .entry)) (edge .0) ⌝ }
+    ensures { λ r. ⌜ r .0 ≡ vertexIn (now (table .entry)) (edge .0) ⌝ }
 {
     let n = table[edge.place()];
     if n == 0 {
-        return 0;
+        return Vertex::of(0);
     }
-    n - 1
+    Vertex::of(n - 1)
 }
 
 // A face: the vertices that it uses first, then its three numbers.
@@ -76,9 +78,9 @@ fn write_face(
     let one = place(vertices, values, table, lattice, iso, a, count);
     let two = place(vertices, values, table, lattice, iso, b, one);
     let three = place(vertices, values, table, lattice, iso, c, two);
-    faces[3 * done] = vertex_of(table, a);
-    faces[3 * done + 1] = vertex_of(table, b);
-    faces[3 * done + 2] = vertex_of(table, c);
+    faces[3 * done] = vertex_of(table, a).number();
+    faces[3 * done + 1] = vertex_of(table, b).number();
+    faces[3 * done + 2] = vertex_of(table, c).number();
     Totals {
         vertices: three,
         faces: done + 1,
@@ -171,30 +173,31 @@ fn write_cell(
     )
 }
 
-// The cells of a line from node n on, along the last axis.
-fn write_line(
+// The cells of a line from a node on, along the last axis, one after the other.
+fn write_cells(
     vertices: &mut [f32],
     faces: &mut [u32],
     values: &[f32],
     table: &[u32],
     lattice: Lattice,
     iso: f32,
-    n: usize,
+    from: Node,
     had: Totals,
     offsets: &[usize; 12],
     triangles: &[i8; 4096],
 ) -> Totals
-    requires { ⌜ Inside (now values) (now table) lattice n (countZ lattice + countZ lattice) × Room (now table) (edgePoint (now values) lattice iso) (now vertices) (now faces) had (lineFaces (now values) (countY lattice) (countZ lattice) iso n (countZ lattice - 1)) × (now offsets ≡ offsetsOf (countY lattice) (countZ lattice)) × (now triangles ≡ flatTable) ⌝ }
-    ensures { λ r. ⌜ Written (now (table .entry)) (edgePoint (now (values .entry)) lattice iso) (now (vertices .entry)) (now (vertices .exit)) (now (faces .entry)) (now (faces .exit)) had r (lineFaces (now (values .entry)) (countY lattice) (countZ lattice) iso n (countZ lattice - 1)) ⌝ }
+    requires { ⌜ Inside (now values) (now table) lattice (from .0) (countZ lattice + countZ lattice) × Room (now table) (edgePoint (now values) lattice iso) (now vertices) (now faces) had (lineFaces (now values) (countY lattice) (countZ lattice) iso (from .0) (countZ lattice - 1)) × (now offsets ≡ offsetsOf (countY lattice) (countZ lattice)) × (now triangles ≡ flatTable) ⌝ }
+    ensures { λ r. ⌜ Written (now (table .entry)) (edgePoint (now (values .entry)) lattice iso) (now (vertices .entry)) (now (vertices .exit)) (now (faces .entry)) (now (faces .exit)) had r (lineFaces (now (values .entry)) (countY lattice) (countZ lattice) iso (from .0) (countZ lattice - 1)) ⌝ }
 {
     let ny = lattice.counts[1];
     let nz = lattice.counts[2];
+    let mut near = side_of(values, ny, nz, from, iso);
     let mut placed = had.vertices;
     let mut written = had.faces;
     let mut k = 0usize;
     while k + 1 < nz {
-        let case = case_of(values, ny, nz, n + k, iso);
-        let first = Edge::of(Node::of(n + k), 0);
+        let far = side_of(values, ny, nz, Node::of(from.0 + k + 1), iso);
+        let first = Edge::of(Node::of(from.0 + k), 0);
         let got = write_cell(
             vertices,
             faces,
@@ -203,7 +206,7 @@ fn write_line(
             lattice,
             iso,
             first,
-            case,
+            near + 16 * far,
             Totals {
                 vertices: placed,
                 faces: written,
@@ -213,6 +216,7 @@ fn write_line(
         );
         placed = got.vertices;
         written = got.faces;
+        near = far;
         k += 1;
     }
     Totals {
@@ -221,7 +225,40 @@ fn write_line(
     }
 }
 
-// The lines of a plane from node n on, along the middle axis.
+// The same, if it has a face.
+fn write_line(
+    vertices: &mut [f32],
+    faces: &mut [u32],
+    values: &[f32],
+    table: &[u32],
+    lattice: Lattice,
+    iso: f32,
+    from: Node,
+    had: Totals,
+    offsets: &[usize; 12],
+    triangles: &[i8; 4096],
+) -> Totals
+    requires { ⌜ Inside (now values) (now table) lattice (from .0) (countZ lattice + countZ lattice) × Room (now table) (edgePoint (now values) lattice iso) (now vertices) (now faces) had (lineFaces (now values) (countY lattice) (countZ lattice) iso (from .0) (countZ lattice - 1)) × (now offsets ≡ offsetsOf (countY lattice) (countZ lattice)) × (now triangles ≡ flatTable) ⌝ }
+    ensures { λ r. ⌜ Written (now (table .entry)) (edgePoint (now (values .entry)) lattice iso) (now (vertices .entry)) (now (vertices .exit)) (now (faces .entry)) (now (faces .exit)) had r (lineFaces (now (values .entry)) (countY lattice) (countZ lattice) iso (from .0) (countZ lattice - 1)) ⌝ }
+{
+    if is_plain(values, lattice.counts[1], lattice.counts[2], from, iso) {
+        return had;
+    }
+    write_cells(
+        vertices,
+        faces,
+        values,
+        table,
+        lattice,
+        iso,
+        from,
+        had,
+        offsets,
+        triangles,
+    )
+}
+
+// The lines of a plane from a node on, along the middle axis.
 fn write_plane(
     vertices: &mut [f32],
     faces: &mut [u32],
@@ -229,13 +266,13 @@ fn write_plane(
     table: &[u32],
     lattice: Lattice,
     iso: f32,
-    n: usize,
+    from: Node,
     had: Totals,
     offsets: &[usize; 12],
     triangles: &[i8; 4096],
 ) -> Totals
-    requires { ⌜ Inside (now values) (now table) lattice n (countY lattice * countZ lattice) × Room (now table) (edgePoint (now values) lattice iso) (now vertices) (now faces) had (planeFaces (now values) (countY lattice) (countZ lattice) iso n (countY lattice - 1)) × (now offsets ≡ offsetsOf (countY lattice) (countZ lattice)) × (now triangles ≡ flatTable) ⌝ }
-    ensures { λ r. ⌜ Written (now (table .entry)) (edgePoint (now (values .entry)) lattice iso) (now (vertices .entry)) (now (vertices .exit)) (now (faces .entry)) (now (faces .exit)) had r (planeFaces (now (values .entry)) (countY lattice) (countZ lattice) iso n (countY lattice - 1)) ⌝ }
+    requires { ⌜ Inside (now values) (now table) lattice (from .0) (countY lattice * countZ lattice) × Room (now table) (edgePoint (now values) lattice iso) (now vertices) (now faces) had (planeFaces (now values) (countY lattice) (countZ lattice) iso (from .0) (countY lattice - 1)) × (now offsets ≡ offsetsOf (countY lattice) (countZ lattice)) × (now triangles ≡ flatTable) ⌝ }
+    ensures { λ r. ⌜ Written (now (table .entry)) (edgePoint (now (values .entry)) lattice iso) (now (vertices .entry)) (now (vertices .exit)) (now (faces .entry)) (now (faces .exit)) had r (planeFaces (now (values .entry)) (countY lattice) (countZ lattice) iso (from .0) (countY lattice - 1)) ⌝ }
 {
     let ny = lattice.counts[1];
     let nz = lattice.counts[2];
@@ -250,7 +287,7 @@ fn write_plane(
             table,
             lattice,
             iso,
-            n + j * nz,
+            Node::of(from.0 + j * nz),
             Totals {
                 vertices: placed,
                 faces: written,
@@ -295,7 +332,7 @@ fn write_planes(
             table,
             lattice,
             iso,
-            i * plane,
+            Node::of(i * plane),
             Totals {
                 vertices: placed,
                 faces: written,

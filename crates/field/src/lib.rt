@@ -12,6 +12,7 @@ ghost use Rattle.lists.specs.Lists.{zeros32};
 ghost use Rattle.grid.specs.Grid.{Sides};
 ghost use Rattle.points.specs.Points.{usables};
 ghost use Rattle.field.specs.Field.{offsetsOf, blurred, componentOf, rightSideBy, rightSide};
+pub use blur::blur_axis;
 use grid::Grid;
 pub use kernel::Kernel;
 

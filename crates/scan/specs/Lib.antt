@@ -1,5 +1,6 @@
 -- The whole call, and its stages: the definitions, what the stages ask and leave, then laws.
 pub mod Reconstruction
+pub mod FieldAlone
 pub mod Stages
 pub mod MeshRoom
 pub mod NanOffset

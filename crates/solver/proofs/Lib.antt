@@ -3,3 +3,4 @@ pub mod InnerRow
 pub mod ApplyRows
 pub mod NanRun
 pub mod Steps
+pub mod Advancing

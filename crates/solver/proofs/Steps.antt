@@ -65,9 +65,9 @@ module _ (g : Grid) (limit : Float) (x r p : List Float) (rr : Float) where
       → _≡_ {A = State} (record { x = x'; r = r'; p = p'; rr = rr' }) (next g from)
   unfolding next
   step-is {alpha} {rr'} {ap'} {x'} {r'} {p'} ea e u =
-      let x= = u .of-x ∙ ap (λ (a : Float). tabulate (allNodes g) (plusAt a x p)) e in
-      let r= = u .of-r ∙ ap (λ (a : Float). tabulate (allNodes g) (minusAt a r ap')) e ∙ ap (λ (z : List Float). tabulate (allNodes g) (minusAt (alphaOf g from) r z)) ea in
-      let rr= = u .of-rr ∙ ap (λ (z : List Float). dotted g z z) r= in
+      let x= = u .advanced .of-x ∙ ap (λ (a : Float). tabulate (allNodes g) (plusAt a x p)) e in
+      let r= = u .advanced .of-r ∙ ap (λ (a : Float). tabulate (allNodes g) (minusAt a r ap')) e ∙ ap (λ (z : List Float). tabulate (allNodes g) (minusAt (alphaOf g from) r z)) ea in
+      let rr= = u .advanced .of-rr ∙ ap (λ (z : List Float). dotted g z z) r= in
       let p= =
       u .of-p ∙ ap (λ (z : List Float). tabulate (allNodes g) (plusAt (narrowed (div binary64 rr' rr)) z p)) r=
       ∙ ap (λ (v : Float). tabulate (allNodes g) (plusAt (narrowed (div binary64 v rr)) (tabulate (allNodes g) (minusAt (alphaOf g from) r (applied g p))) p)) rr= in

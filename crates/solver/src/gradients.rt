@@ -3,14 +3,13 @@ ghost use mathlib.Core.Path.{_≡_};
 ghost use lib.ListN.{length};
 ghost use denote.Ref.{now};
 ghost use Rattle.solver.specs.Solver.{allNodes, started, steps, conjugate};
-ghost use Rattle.solver.specs.Inner.{Sized, Updated, Turned};
+ghost use Rattle.solver.specs.Inner.{Sized, Left, Updated, Turned};
 use crate::laplacian::apply;
-use crate::vectors::axpy;
+use crate::vectors::advance;
 use crate::vectors::copy;
 use crate::vectors::dot;
 use crate::vectors::less;
 use crate::vectors::squares;
-use crate::vectors::take_from;
 use crate::vectors::xpay;
 use grid::Grid;
 
@@ -33,9 +32,7 @@ fn update(
     requires { ⌜ Sized g (now x) (now r) (now p) (now ap) ⌝ }
     ensures { λ t. ⌜ Updated g alpha rr (now (x .entry)) (now (r .entry)) (now (p .entry)) (now (ap .entry)) (now (x .exit)) (now (r .exit)) (now (p .exit)) t ⌝ }
 {
-    axpy(x, p, alpha);
-    take_from(r, ap, alpha);
-    let rr_new = squares(g, r);
+    let rr_new = advance(g, x, r, p, ap, alpha);
     let beta = arith::narrow(rr_new / rr);
     xpay(p, r, beta);
     rr_new
@@ -113,8 +110,8 @@ fn begin(g: Grid, b: &[f32], x: &[f32], r: &mut [f32], p: &mut [f32], ap: &mut [
     squares(g, r)
 }
 
-// From x on, at most cap steps; a zero right side leaves x as it started. r, p and ap are scratch: rubbish at entry, and what they are left with is not said.
-pub fn conjugate_gradient(
+// From x on, at most cap steps; a zero right side leaves x as it started. What is left in r, p and ap is of no use.
+fn descend(
     g: Grid,
     b: &[f32],
     x: &mut [f32],
@@ -134,4 +131,25 @@ pub fn conjugate_gradient(
     }
     let rr = begin(g, b, x, r, p, ap);
     turns(g, x, r, p, ap, rr, tolerance * norm, cap);
+}
+
+// The solution of A x = b, from x on. r, p and ap are scratch: rubbish at entry, zeros at exit.
+pub fn conjugate_gradient(
+    g: Grid,
+    b: &[f32],
+    x: &mut [f32],
+    r: &mut [f32],
+    p: &mut [f32],
+    ap: &mut [f32],
+    tolerance: f64,
+    cap: usize,
+)
+    requires { ⌜ Sized g (now x) (now r) (now p) (now ap) ⌝ }
+    requires { ⌜ length (now b) ≡ allNodes g ⌝ }
+    ensures { λ _. ⌜ Left g (conjugate g tolerance cap (now (b .entry)) (now (x .entry))) (now (x .exit)) (now (r .exit)) (now (p .exit)) (now (ap .exit)) ⌝ }
+{
+    descend(g, b, x, r, p, ap, tolerance, cap);
+    lists::clear_f32(r);
+    lists::clear_f32(p);
+    lists::clear_f32(ap);
 }

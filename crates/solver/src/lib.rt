@@ -5,4 +5,5 @@ mod laplacian;
 mod vectors;
 
 pub use gradients::conjugate_gradient;
+pub use laplacian::apply;
 pub use vectors::copy;

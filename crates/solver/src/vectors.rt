@@ -2,7 +2,8 @@
 ghost use mathlib.Core.Path.{_≡_};
 ghost use lib.ListN.{length};
 ghost use Rattle.lists.specs.Lists.{tabulate};
-ghost use Rattle.solver.specs.Solver.{allNodes, dotted, plusAt, minusAt, lessAt};
+ghost use Rattle.solver.specs.Solver.{allNodes, dotted, plusAt, lessAt};
+ghost use Rattle.solver.specs.Inner.{Sized, Advanced};
 use grid::Grid;
 
 // The dot product: f64, index order, from +0.0. The Rust's `dot` sums in any order.
@@ -34,16 +35,22 @@ pub fn squares(g: Grid, a: &[f32]) -> f64
     s
 }
 
-// x becomes x + alpha·p.
-pub fn axpy(x: &mut [f32], p: &[f32], alpha: f32)
-    requires { ⌜ length (now p) ≡ length (now x) ⌝ }
-    ensures { λ _. ⌜ now (x .exit) ≡ tabulate (length (now (x .entry))) (plusAt alpha (now (x .entry)) (now (p .entry))) ⌝ }
+// x becomes x + alpha·p and r becomes r - alpha·ap; it answers dot(r, r) of the new r. One pass for all three: that sum must run in order, and the rest is done while it waits.
+pub fn advance(g: Grid, x: &mut [f32], r: &mut [f32], p: &[f32], ap: &[f32], alpha: f32) -> f64
+    requires { ⌜ Sized g (now x) (now r) (now p) (now ap) ⌝ }
+    ensures { λ t. ⌜ Advanced g alpha (now (x .entry)) (now (r .entry)) (now (p .entry)) (now (ap .entry)) (now (x .exit)) (now (r .exit)) t ⌝ }
 {
+    let mut s = 0.0f64;
     let mut i = 0usize;
     while i < x.len() {
         x[i] = x[i] + alpha * p[i];
+        let v = r[i] - alpha * ap[i];
+        r[i] = v;
+        let w = arith::widen(v);
+        s = s + w * w;
         i += 1;
     }
+    s
 }
 
 // p becomes r + beta·p.
@@ -54,18 +61,6 @@ pub fn xpay(p: &mut [f32], r: &[f32], beta: f32)
     let mut i = 0usize;
     while i < p.len() {
         p[i] = r[i] + beta * p[i];
-        i += 1;
-    }
-}
-
-// r becomes r - alpha·ap.
-pub fn take_from(r: &mut [f32], ap: &[f32], alpha: f32)
-    requires { ⌜ length (now ap) ≡ length (now r) ⌝ }
-    ensures { λ _. ⌜ now (r .exit) ≡ tabulate (length (now (r .entry))) (minusAt alpha (now (r .entry)) (now (ap .entry))) ⌝ }
-{
-    let mut i = 0usize;
-    while i < r.len() {
-        r[i] = r[i] - alpha * ap[i];
         i += 1;
     }
 }

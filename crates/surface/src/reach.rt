@@ -1,7 +1,7 @@
 // The box of the vertices, which is part of the answer. The Rust has none.
 ghost use mathlib.Core.Path.{_≡_};
 ghost use Rattle.surface.specs.Surface.{lower, higher, reachedBy, boxOf};
-use crate::triangle::place_at;
+use crate::triangle::triple_at;
 
 // The low and the high corner.
 pub struct VertexBox {
@@ -54,14 +54,14 @@ pub fn bounds(vertices: &[f32]) -> VertexBox
             high: [0.0, 0.0, 0.0],
         };
     }
-    let first = place_at(vertices, 0);
+    let first = triple_at(vertices, 0);
     let mut b = VertexBox {
         low: first,
         high: first,
     };
     let mut v = 1usize;
     while v < count {
-        b = b.reach(place_at(vertices, v));
+        b = b.reach(triple_at(vertices, 3 * v));
         v += 1;
     }
     b

@@ -1,7 +1,9 @@
 // One face of a flat mesh: its three vertex numbers by value, its centre and its normal.
 ghost use mathlib.Core.Path.{_≡_};
+ghost use mathlib.Core.List.{[], _∷_};
 ghost use Prim.Native.Nat.{_+_, _*_, _<_};
 ghost use lib.ListN.{length};
+ghost use Rattle.lists.specs.Lists.{at};
 ghost use Rattle.closed.specs.Faces.{faceOf};
 ghost use Rattle.surface.specs.Surface.{vertexCount, cornersAt, putFace, Corners, vertexAt, minus, cross, centreOf, normalOf};
 use grid::Vertex;
@@ -26,13 +28,12 @@ pub fn write_face(faces: &mut [u32], t: usize, face: [u32; 3])
     faces[k + 2] = face[2];
 }
 
-// The place that stands v-th in a list of places.
-pub fn place_at(vertices: &[f32], v: usize) -> [f32; 3]
-    requires { ⌜ v < vertexCount (now vertices) ⌝ }
-    ensures { λ r. ⌜ r ≡ vertexAt (now (vertices .entry)) v ⌝ }
+// The three numbers from place k of a slice on.
+pub fn triple_at(numbers: &[f32], k: usize) -> [f32; 3]
+    requires { ⌜ k + 2 < length (now numbers) ⌝ }
+    ensures { λ r. ⌜ r ≡ at (now (numbers .entry)) k ∷ at (now (numbers .entry)) (k + 1) ∷ at (now (numbers .entry)) (k + 2) ∷ [] ⌝ }
 {
-    let k = 3 * v;
-    [vertices[k], vertices[k + 1], vertices[k + 2]]
+    [numbers[k], numbers[k + 1], numbers[k + 2]]
 }
 
 // The place of a vertex.
@@ -40,7 +41,7 @@ fn vertex_at(vertices: &[f32], v: Vertex) -> [f32; 3]
     requires { ⌜ v .0 < vertexCount (now vertices) ⌝ }
     ensures { λ r. ⌜ r ≡ vertexAt (now (vertices .entry)) (v .0) ⌝ }
 {
-    place_at(vertices, v.number() as usize)
+    triple_at(vertices, 3 * v.number() as usize)
 }
 
 // The f32 centre: the corners' sum in their order, divided by 3.

@@ -2,16 +2,16 @@
 -- past both. Assumes nothing.
 use mathlib.Core.Path.{_≡_, sym, ap, _∙_}
 use mathlib.Core.Logic.{⊎-elim}
-use mathlib.Core.List.{List, _++_, append-nil}
-use Prim.Native.Nat.{ℕ, _-_, _*_, _/_, _≤_, _<_}
+use mathlib.Core.List.{List, [], _∷_, _++_, append-nil}
+use Prim.Native.Nat.{ℕ, _+_, _-_, _*_, _/_, _≤_, _<_}
 use native.Mathlib.Omega.{arith}
 use lib.ListN.{length, getD, take, replicate, length-take}
 use lib.Ieee.{Float, binary32, mul}
 use Rattle.lists.specs.Lists.{zero32, zeros32, zerosU, padded}
 use Rattle.lists.specs.Padded.{cleared-padded}
 use Rattle.closed.specs.Faces.{Face, faces, corners}
-use Rattle.closed.specs.Numbering.{used, mesh, slot}
-use Rattle.closed.specs.Renumber.{in-or-not, in-at, indexOf-lt, slot-in, slot-out}
+use Rattle.closed.specs.Numbering.{note, grow, dedup, used, mesh, slot}
+use Rattle.closed.specs.Renumber.{in-or-not, in-at, indexOf-lt, note-old, length-note-new, slot-in, slot-out}
 use Rattle.closed.specs.Mesh.{mesh-length}
 use Rattle.closed.specs.Turning.{length-corners, length-faces, corners-faces}
 use Rattle.points.specs.declared.point.Point.{Point}
@@ -30,6 +30,19 @@ slot-le seen v = ⊎-elim (λ h. omega (arith, slot-in seen v h, indexOf-lt v se
 pub slots-le : {seen table : List ℕ} {count : ℕ} → Slots seen table count → (v : ℕ) → v < length table → getD table v 0 ≤ count
 slots-le {seen} slots v h = omega (arith, slots .entry v h, slot-le seen v, slots .total)
 
+-- no more vertices are used than faces have corners
+note-most : (seen : List ℕ) (v : ℕ) → length (note seen v) ≤ length seen + 1
+note-most seen v = ⊎-elim (λ h. omega (arith, ap length (note-old seen v h))) (λ n. omega (arith, length-note-new seen v n)) (in-or-not v seen)
+
+grow-most : (seen l : List ℕ) → length (grow seen l) ≤ length seen + length l
+unfolding grow
+grow-most seen [] = omega arith
+grow-most seen (v ∷ l) = omega (arith, note-most seen v, grow-most (note seen v) l)
+
+used-most : (fs : List Face) → length (used fs) ≤ 3 * length fs
+unfolding used dedup
+used-most fs = omega (arith, grow-most [] (corners fs), length-corners fs)
+
 module _ (ps : List Point) (vertices : List Float) (distance : Float) (numbers : List ℕ) where
   abbrev kept : List Face
   kept = keptFaces ps vertices distance (faces numbers)
@@ -44,6 +57,9 @@ module _ (ps : List Point) (vertices : List Float) (distance : Float) (numbers :
       pub within-vertices : size .vertices ≤ vertexCount vertices
       unfolding keptFaces
       within-vertices = omega (arith, front .slots .total, used-few m (near ps vertices (mul binary32 distance distance)))
+
+      pub within-count : size .vertices ≤ 3 * size .faces
+      within-count = omega (arith, front .slots .total, front .count, used-most kept)
 
       whole : length l ≡ 3 * faceCount l
       whole = omega (arith, m .triples)

@@ -62,7 +62,7 @@ fn trim_within(
     let size = keep_near(distance, points, vertices, faces, table);
     let used = size.vertices;
     let kept = size.faces;
-    moving::move_vertices(table, vertices, a, b, c, used);
+    moving::move_vertices(table, vertices, a, b, c, used as u32);
     lists::clear_from_f32(vertices, 3 * used);
     lists::clear_from_u32(faces, 3 * kept);
     size

@@ -4,17 +4,19 @@ ghost use Prim.Native.Nat.{ℕ, _*_, _<_, _≤_};
 ghost use mathlib.Core.List.{List};
 ghost use lib.ListN.{length, getD, set, take};
 ghost use Rattle.lists.specs.Lists.{at};
-ghost use Rattle.surface.specs.Surface.{vertexCount, coordinate};
+ghost use Rattle.surface.specs.Surface.{vertexCount};
 ghost use Rattle.closed.specs.Numbering.{NoRepeat};
 ghost use Rattle.trim.specs.Trim.{placesOf};
 ghost use Rattle.trim.specs.Passes.{Slots, lines, Even, carried, gathered, scattered, Lists};
+use grid::Vertex;
 
-// Stores a number at a place of the three slices.
-fn put(a: &mut [f32], b: &mut [f32], c: &mut [f32], w: usize, x: f32)
+// Stores a coordinate of a vertex at its place in the three slices.
+fn put(a: &mut [f32], b: &mut [f32], c: &mut [f32], vertex: Vertex, x: f32)
     requires { ⌜ Even (now a) (now b) (now c) ⌝ }
-    requires { ⌜ w < 3 * length (now a) ⌝ }
-    ensures { λ _. ⌜ lines (now (a .exit)) (now (b .exit)) (now (c .exit)) ≡ set (lines (now (a .entry)) (now (b .entry)) (now (c .entry))) w x ⌝ }
+    requires { ⌜ vertex .0 < 3 * length (now a) ⌝ }
+    ensures { λ _. ⌜ lines (now (a .exit)) (now (b .exit)) (now (c .exit)) ≡ set (lines (now (a .entry)) (now (b .entry)) (now (c .entry))) (vertex .0) x ⌝ }
 {
+    let w = vertex.0 as usize;
     let n = a.len();
     if w < n {
         a[w] = x;
@@ -27,12 +29,13 @@ fn put(a: &mut [f32], b: &mut [f32], c: &mut [f32], w: usize, x: f32)
     c[w - n - n] = x;
 }
 
-// Reads the number there.
-fn get(a: &[f32], b: &[f32], c: &[f32], w: usize) -> f32
+// Reads the coordinate there.
+fn get(a: &[f32], b: &[f32], c: &[f32], vertex: Vertex) -> f32
     requires { ⌜ Even (now a) (now b) (now c) ⌝ }
-    requires { ⌜ w < 3 * length (now a) ⌝ }
-    ensures { λ r. ⌜ r ≡ at (lines (now (a .entry)) (now (b .entry)) (now (c .entry))) w ⌝ }
+    requires { ⌜ vertex .0 < 3 * length (now a) ⌝ }
+    ensures { λ r. ⌜ r ≡ at (lines (now (a .entry)) (now (b .entry)) (now (c .entry))) (vertex .0) ⌝ }
 {
+    let w = vertex.0 as usize;
     let n = a.len();
     if w < n {
         return a[w];
@@ -43,26 +46,16 @@ fn get(a: &[f32], b: &[f32], c: &[f32], w: usize) -> f32
     c[w - n - n]
 }
 
-// A coordinate of old vertex v goes to the place of the vertex's new number, if it has one.
-fn carry(
-    table: &[u32],
-    vertices: &[f32],
-    a: &mut [f32],
-    b: &mut [f32],
-    c: &mut [f32],
-    axis: usize,
-    v: usize,
-)
+// A coordinate of an old vertex goes to the place of its new number, if its entry in the table names one.
+fn carry(a: &mut [f32], b: &mut [f32], c: &mut [f32], entry: u32, x: f32)
     requires { ⌜ Even (now a) (now b) (now c) ⌝ }
-    requires { ⌜ (axis < 3) × (v < vertexCount (now vertices)) × (v < length (now table)) ⌝ }
-    requires { ⌜ getD (now table) v 0 ≤ 3 * length (now a) ⌝ }
-    ensures { λ _. ⌜ lines (now (a .exit)) (now (b .exit)) (now (c .exit)) ≡ carried (lines (now (a .entry)) (now (b .entry)) (now (c .entry))) (getD (now (table .entry)) v 0) (coordinate (now (vertices .entry)) v axis) ⌝ }
+    requires { ⌜ entry ≤ 3 * length (now a) ⌝ }
+    ensures { λ _. ⌜ lines (now (a .exit)) (now (b .exit)) (now (c .exit)) ≡ carried (lines (now (a .entry)) (now (b .entry)) (now (c .entry))) entry x ⌝ }
 {
-    let entry = table[v] as usize;
     if entry == 0 {
         return;
     }
-    put(a, b, c, entry - 1, vertices[3 * v + axis]);
+    put(a, b, c, Vertex::of(entry - 1), x);
 }
 
 // The same with all old vertices.
@@ -73,20 +66,20 @@ fn gather(table: &[u32], vertices: &[f32], a: &mut [f32], b: &mut [f32], c: &mut
     let count = vertices.len() / 3;
     let mut v = 0usize;
     while v < count {
-        carry(table, vertices, a, b, c, axis, v);
+        carry(a, b, c, table[v], vertices[3 * v + axis]);
         v += 1;
     }
 }
 
 // And back into the vertices, of which there are `used`.
-fn scatter(vertices: &mut [f32], a: &[f32], b: &[f32], c: &[f32], axis: usize, used: usize)
+fn scatter(vertices: &mut [f32], a: &[f32], b: &[f32], c: &[f32], axis: usize, used: u32)
     requires { ⌜ Even (now a) (now b) (now c) ⌝ }
     requires { ⌜ (axis < 3) × (used ≤ vertexCount (now vertices)) × (used ≤ 3 * length (now a)) ⌝ }
     ensures { λ _. ⌜ now (vertices .exit) ≡ scattered (lines (now (a .entry)) (now (b .entry)) (now (c .entry))) axis (now (vertices .entry)) used ⌝ }
 {
-    let mut w = 0usize;
+    let mut w = 0u32;
     while w < used {
-        vertices[3 * w + axis] = get(a, b, c, w);
+        vertices[3 * w as usize + axis] = get(a, b, c, Vertex::of(w));
         w += 1;
     }
 }
@@ -99,7 +92,7 @@ fn move_axis(
     b: &mut [f32],
     c: &mut [f32],
     axis: usize,
-    used: usize,
+    used: u32,
 )
     requires { ⌜ Lists (now table) (now vertices) (now a) (now b) (now c) axis ⌝ }
     requires { ⌜ (used ≤ vertexCount (now vertices)) × (used ≤ 3 * length (now a)) ⌝ }
@@ -116,7 +109,7 @@ pub fn move_vertices(
     a: &mut [f32],
     b: &mut [f32],
     c: &mut [f32],
-    used: usize,
+    used: u32,
 )
     requires { ⌜ Even (now a) (now b) (now c) ⌝ }
     requires { ⌜ (used ≤ vertexCount (now vertices)) × (used ≤ 3 * length (now a)) × (vertexCount (now vertices) ≤ length (now table)) ⌝ }

@@ -39,14 +39,14 @@ fn note_face(table: &mut [u32], seen: u32, face: [u32; 3]) -> u32
     note_vertex(table, second, Vertex::of(face[2]))
 }
 
-// The new number of a vertex that is noted.
-fn new_number(table: &[u32], v: Vertex) -> u32
+// The new vertex of one that is noted.
+fn new_vertex(table: &[u32], v: Vertex) -> Vertex
     requires { ⌜ v .0 < length (now table) ⌝ }
     requires { ⌜ 1 ≤ getD (now table) (v .0) 0 ⌝ }
-    ensures { λ r. ⌜ r ≡ getD (now (table .entry)) (v .0) 0 - 1 ⌝ }
+    ensures { λ r. ⌜ r .0 ≡ getD (now (table .entry)) (v .0) 0 - 1 ⌝ }
 {
     let at = v.number() as usize;
-    table[at] - 1
+    Vertex::of(table[at] - 1)
 }
 
 // A face over the new numbers.
@@ -56,9 +56,9 @@ fn renamed(table: &[u32], face: [u32; 3]) -> [u32; 3]
     ensures { λ r. ⌜ r ≡ (getD (now (table .entry)) (getD face 0 0) 0 - 1) ∷ (getD (now (table .entry)) (getD face 1 0) 0 - 1) ∷ (getD (now (table .entry)) (getD face 2 0) 0 - 1) ∷ [] ⌝ }
 {
     [
-        new_number(table, Vertex::of(face[0])),
-        new_number(table, Vertex::of(face[1])),
-        new_number(table, Vertex::of(face[2])),
+        new_vertex(table, Vertex::of(face[0])).number(),
+        new_vertex(table, Vertex::of(face[1])).number(),
+        new_vertex(table, Vertex::of(face[2])).number(),
     ]
 }
 

@@ -3,6 +3,7 @@
 //! `build.rs` makes the text of the module `poisson` from the published one; marching_cubes.rs and the k-d tree are as
 //! published. [`answer`] is one call.
 pub mod cases;
+pub mod sheets;
 pub mod window;
 
 #[rustfmt::skip]
@@ -17,9 +18,10 @@ mod parallel;
 #[allow(dead_code, unused, clippy::all)]
 mod poisson {
     include!(concat!(env!("OUT_DIR"), "/poisson.rs"));
+    pub mod loops;
 }
 
-pub use poisson::PoissonConfig;
+pub use poisson::{loops, PoissonConfig};
 pub use window::Seen;
 
 use std::time::Duration;

@@ -1,7 +1,9 @@
 //! oracle run < CASE       prints the answer to a library case
 //! oracle check FOLDER     answers every case of a folder anew and compares with the answer beside it
+//! oracle sheets FOLDER    the same for the sheets of the preview program
 //! oracle text             prints the patched text as it is compiled
 use oracle::cases::{show, Case};
+use oracle::sheets::printed;
 use std::error::Error;
 use std::io::Read;
 use std::path::Path;
@@ -19,15 +21,20 @@ fn from_standard_input() -> Result<(), Box<dyn Error>> {
     Ok(())
 }
 
-fn check(folder: &Path) -> Result<(), Box<dyn Error>> {
+/// What stands beside each file of a folder is what `made` makes of it, from its bytes and from what stands there.
+fn compare(
+    folder: &Path,
+    kind: &str,
+    made: impl Fn(&[u8], &str) -> Result<String, Box<dyn Error>>,
+) -> Result<(), Box<dyn Error>> {
     let (mut agree, mut differ) = (0, 0);
     for entry in fs::read_dir(folder)? {
         let path = entry?.path();
-        if path.extension().is_none_or(|e| e != "case") {
+        if path.extension().is_none_or(|e| e != kind) {
             continue;
         }
         let wanted = fs::read_to_string(path.with_extension("out"))?;
-        if run(&fs::read(&path)?, wanted.contains("hash-vertices"))? == wanted {
+        if made(&fs::read(&path)?, &wanted)? == wanted {
             agree += 1;
         } else {
             differ += 1;
@@ -46,12 +53,15 @@ fn main() {
     let words: Vec<String> = env::args().skip(1).collect();
     let done = match words.iter().map(String::as_str).collect::<Vec<_>>()[..] {
         ["run"] => from_standard_input(),
-        ["check", folder] => check(Path::new(folder)),
+        ["check", folder] => {
+            compare(Path::new(folder), "case", |case, wanted| run(case, wanted.contains("hash-vertices")))
+        }
+        ["sheets", folder] => compare(Path::new(folder), "in", |sheet, _| Ok(printed(sheet))),
         ["text"] => {
             print!("{}", oracle::PATCHED_TEXT);
             Ok(())
         }
-        _ => Err("usage: oracle run < CASE | oracle check FOLDER | oracle text".into()),
+        _ => Err("usage: oracle run < CASE | oracle check FOLDER | oracle sheets FOLDER | oracle text".into()),
     };
     if let Err(error) = done {
         eprintln!("oracle: {error}");

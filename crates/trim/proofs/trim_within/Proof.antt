@@ -6,13 +6,19 @@ use lib.ListN.{length}
 use Rattle.closed.specs.Mesh.{used-no-repeat}
 use Rattle.points.specs.Points.{usables}
 use Rattle.trim.specs.Passes.{Even}
-use Rattle.trim.proofs.WithinDistance.{slots-le, within-below, within-vertices, within-faces, trimmed-within}
+use Rattle.trim.proofs.WithinDistance.{slots-le, within-below, within-vertices, within-faces, within-count, trimmed-within}
 use borrow.Author.Needs.{needs}
 use Rattle.trim.proofs.trim_within.Statement.{statement}
 use Rattle.trim.proofs.trim_within.Tie as tie
 
 keep-near-requires : tie.Need-keep-near-requires
 keep-near-requires c κs = search needs
+
+cast-move-vertices : tie.Need-cast-move-vertices
+cast-move-vertices c =
+    let s = c .before .before .before .before .before .before .before .before .before .before .before .before .before .before .before .before .before .before .before .before in
+    let near = c .before .before .before .before .before .before .before .before .before .keep-near in
+    omega (arith, s .pre .1 .countable, within-count (usables (now (s .args .points))) (now (s .args .vertices)) (s .args .distance) (now (s .args .faces)) (s .pre .0) (near .ensures) (near .kept .1 .1 .1 .0), within-faces (usables (now (s .args .points))) (now (s .args .vertices)) (s .args .distance) (now (s .args .faces)) (s .pre .0) (near .ensures) (near .kept .1 .1 .1 .0), near .kept .1 .1 .1 .0)
 
 move-vertices-requires : tie.Need-move-vertices-requires
 move-vertices-requires c κs =
@@ -74,6 +80,7 @@ trim-within-spec =
     tie.close
     (tie.spec
     keep-near-requires
+    cast-move-vertices
     move-vertices-requires
     mul-clear-from-f32
     clear-from-f32-requires

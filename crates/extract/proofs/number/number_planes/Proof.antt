@@ -6,6 +6,7 @@ use native.Mathlib.Nat.{mul-le-mul-right, add-mul, mul-assoc, one-mul, le-mul-of
 use native.Mathlib.Omega.{arith}
 use Rattle.extract.specs.Passes.{Numbered, Few, planeFaces, blockFaces, none}
 use Rattle.extract.proofs.Marking.{numbered-start, numbered-more-cells, numbered-kept, few-later}
+use borrow.Author.Needs.{needs}
 use Rattle.extract.proofs.number.number_planes.Statement.{statement}
 use Rattle.extract.proofs.number.number_planes.Tie as tie
 
@@ -32,33 +33,36 @@ add-loop c =
     let p : 0 < s .args .ny * s .args .nz = omega (arith, mul-le-mul-right (s .args .nz) (s .pre .0 .rows), s .pre .0 .two) in
     omega (arith, c .loop .inv .2, le-mul-of-pos-right (s .args .nx) p, mul-assoc (s .args .nx) (s .args .ny) (s .args .nz), s .pre .0 .inside, s .pre .0 .most)
 
-mul-number-plane : tie.Need-mul-number-plane Inv-loop μ-loop
-mul-number-plane c =
+mul-of : tie.Need-mul-of Inv-loop μ-loop
+mul-of c =
     let s = c .before .before .before .before .before in
     let h : c .before .before .loop .i + 2 ≤ s .args .nx = omega (arith, c .before .loop-test .taken) in
     let p : 0 < s .args .ny * s .args .nz = omega (arith, mul-le-mul-right (s .args .nz) (s .pre .0 .rows), s .pre .0 .two) in
     omega (arith, mul-le-mul-right (s .args .ny * s .args .nz) h, add-mul (c .before .before .loop .i) 2 (s .args .ny * s .args .nz), mul-assoc (s .args .nx) (s .args .ny) (s .args .nz), le-mul-of-pos-right (s .args .nx) p, s .pre .0 .inside, s .pre .0 .most)
 
-mul-number-plane-2 : tie.Need-mul-number-plane-2 Inv-loop μ-loop
-mul-number-plane-2 c =
+mul-of-2 : tie.Need-mul-of-2 Inv-loop μ-loop
+mul-of-2 c =
     let s = c .before .before .before .before .before in
     let h : c .before .before .loop .i + 2 ≤ s .args .nx = omega (arith, c .before .loop-test .taken) in
     let p : 0 < s .args .ny * s .args .nz = omega (arith, mul-le-mul-right (s .args .nz) (s .pre .0 .rows), s .pre .0 .two) in
     omega (arith, mul-le-mul-right (s .args .ny * s .args .nz) h, add-mul (c .before .before .loop .i) 2 (s .args .ny * s .args .nz), mul-assoc (s .args .nx) (s .args .ny) (s .args .nz), le-mul-of-pos-right (s .args .nx) p, s .pre .0 .inside, s .pre .0 .most)
+
+of-requires : tie.Need-of-requires Inv-loop μ-loop
+of-requires c κs = search needs
 
 number-plane-requires : tie.Need-number-plane-requires Inv-loop μ-loop
 number-plane-requires c κs =
-    let s = c .before .before .before .before .before in
-    let l = c .before .before .loop in
-    let h : l .i + 2 ≤ s .args .nx = omega (arith, c .before .loop-test .taken) in
+    let s = c .before .before .before .before .before .before in
+    let l = c .before .before .before .loop in
+    let h : l .i + 2 ≤ s .args .nx = omega (arith, c .before .before .loop-test .taken) in
     let P = s .args .ny * s .args .nz in (
       record {
         two = s .pre .0 .two;
         rows = s .pre .0 .rows;
-        inside = omega (arith, mul-le-mul-right P h, add-mul (l .i) 2 P, mul-assoc (s .args .nx) (s .args .ny) (s .args .nz), s .pre .0 .inside);
+        inside = omega (arith, c .of .ensures, mul-le-mul-right P h, add-mul (l .i) 2 P, mul-assoc (s .args .nx) (s .args .ny) (s .args .nz), s .pre .0 .inside);
         edges = numbered-kept (l .inv .0) ∙ s .pre .0 .edges;
         most = s .pre .0 .most;
-        few = l .inv .1;
+        few = few-later (l .i * P) (c .of .result .0) (l .inv .1) (omega (arith, c .of .ensures));
       },
       s .pre .1,
       s .pre .2,
@@ -66,23 +70,24 @@ number-plane-requires c κs =
 
 add-i : tie.Need-add-i Inv-loop μ-loop
 add-i c =
-    let s = c .before .before .before .before .before .before .before .before in
+    let s = c .before .before .before .before .before .before .before .before .before in
     let p : 0 < s .args .ny * s .args .nz = omega (arith, mul-le-mul-right (s .args .nz) (s .pre .0 .rows), s .pre .0 .two) in
-    omega (arith, c .before .before .before .before .before .loop .inv .2, le-mul-of-pos-right (s .args .nx) p, mul-assoc (s .args .nx) (s .args .ny) (s .args .nz), s .pre .0 .inside, s .pre .0 .most)
+    omega (arith, c .before .before .before .before .before .before .loop .inv .2, le-mul-of-pos-right (s .args .nx) p, mul-assoc (s .args .nx) (s .args .ny) (s .args .nz), s .pre .0 .inside, s .pre .0 .most)
 
 loop-less : tie.Need-loop-less Inv-loop μ-loop
-loop-less c = omega (arith, c .before .before .before .before .loop-test .taken)
+loop-less c = omega (arith, c .before .before .before .before .before .loop-test .taken)
 
 loop-again : tie.Need-loop-again Inv-loop μ-loop
 loop-again c =
-    let s = c .before .before .before .before .before .before .before .before in
-    let l = c .before .before .before .before .before .loop in
+    let s = c .before .before .before .before .before .before .before .before .before in
+    let l = c .before .before .before .before .before .before .loop in
     let a = s .args in
     let o = c .before .before .number-plane in
-    let P = a .ny * a .nz in (
-      numbered-more-cells (l .i) (λ i. planeFaces (a .values .now) (a .ny) (a .nz) (a .iso) (i * (a .ny * a .nz)) (a .ny - 1)) (l .inv .0) (o .ensures .0),
-      few-later (l .i * P + P) ((l .i + 1) * P) (o .ensures .1) (omega (arith, add-mul (l .i) 1 P, one-mul P)),
-      omega (arith, c .before .before .before .before .loop-test .taken),
+    let P = a .ny * a .nz in
+    let plane = subst (λ (n : ℕ). Numbered (l .table) (o .last .0) (record { vertices = l .vertices; faces = l .faces }) (o .result) (planeFaces (a .values .now) (a .ny) (a .nz) (a .iso) n (a .ny - 1))) (c .before .before .before .of .ensures) (o .ensures .0) in (
+      numbered-more-cells (l .i) (λ i. planeFaces (a .values .now) (a .ny) (a .nz) (a .iso) (i * (a .ny * a .nz)) (a .ny - 1)) (l .inv .0) plane,
+      few-later (c .before .before .before .of .result .0 + P) ((l .i + 1) * P) (o .ensures .1) (omega (arith, c .before .before .before .of .ensures, add-mul (l .i) 1 P, one-mul P)),
+      omega (arith, c .before .before .before .before .before .loop-test .taken),
     )
 
 same-length : tie.Need-same-length Inv-loop μ-loop
@@ -104,8 +109,9 @@ number-planes-spec =
     μ-loop
     loop-holds
     add-loop
-    mul-number-plane
-    mul-number-plane-2
+    mul-of
+    mul-of-2
+    of-requires
     number-plane-requires
     add-i
     loop-less

@@ -1,13 +1,13 @@
 -- `extract::write::write_planes` meets its contract: the first i planes are written.
 -- Assumes nothing.
-use mathlib.Core.Path.{_≡_, subst}
+use mathlib.Core.Path.{_≡_, sym, subst}
 use Prim.Native.Nat.{ℕ, _+_, _-_, _*_, _<_, _≤_}
 use native.Mathlib.Nat.{mul-le-mul-right, add-mul, mul-assoc, le-mul-of-pos-right}
 use native.Mathlib.Omega.{arith}
-use borrow.Author.Needs.{needs}
 use Rattle.extract.specs.Extraction.{countX, countY, countZ, edgePoint}
-use Rattle.extract.specs.Passes.{Written, planeFaces, blockFaces, none}
+use Rattle.extract.specs.Passes.{Written, Room, planeFaces, blockFaces, none}
 use Rattle.extract.proofs.Placing.{written-start, written-more-cells, room-cell, vertices-kept, faces-kept}
+use borrow.Author.Needs.{needs}
 use Rattle.extract.proofs.write.write_planes.Statement.{statement}
 use Rattle.extract.proofs.write.write_planes.Tie as tie
 
@@ -43,45 +43,52 @@ add-loop c =
     let p : 0 < (countY (s .args .t5) * countZ (s .args .t5)) = omega (arith, mul-le-mul-right (countZ (s .args .t5)) (s .pre .0 .counts .two-y), s .pre .0 .counts .two-z) in
     omega (arith, c .loop .inv .1, le-mul-of-pos-right (countX (s .args .t5)) p, mul-assoc (countX (s .args .t5)) (countY (s .args .t5)) (countZ (s .args .t5)), s .pre .1, s .pre .0 .most)
 
-mul-write-plane : tie.Need-mul-write-plane Inv-loop μ-loop
-mul-write-plane c =
+mul-of : tie.Need-mul-of Inv-loop μ-loop
+mul-of c =
     let s = c .before .before .before .before .before .before .before .before .before .before .before in
     let l = c .before .before .before .loop in
     let h : l .i + 2 ≤ countX (s .args .t5) = omega (arith, c .before .before .loop-test .taken) in
     omega (arith, mul-le-mul-right (countY (s .args .t5) * countZ (s .args .t5)) h, add-mul (l .i) 2 (countY (s .args .t5) * countZ (s .args .t5)), mul-assoc (countX (s .args .t5)) (countY (s .args .t5)) (countZ (s .args .t5)), s .pre .1, s .pre .0 .most)
 
+of-requires : tie.Need-of-requires Inv-loop μ-loop
+of-requires c κs = search needs
+
 write-plane-requires : tie.Need-write-plane-requires Inv-loop μ-loop
 write-plane-requires c κs =
-    let s = c .before .before .before .before .before .before .before .before .before .before .before in
-    let l = c .before .before .before .loop in
-    let h : l .i + 2 ≤ countX (s .args .t5) = omega (arith, c .before .before .loop-test .taken) in
-    let less : l .i < countX (s .args .t5) - 1 = omega (arith, c .before .before .loop-test .taken) in (
+    let s = c .before .before .before .before .before .before .before .before .before .before .before .before in
+    let l = c .before .before .before .before .loop in
+    let a = s .args in
+    let P = countY (a .t5) * countZ (a .t5) in
+    let h : l .i + 2 ≤ countX (a .t5) = omega (arith, c .before .before .before .loop-test .taken) in
+    let less : l .i < countX (a .t5) - 1 = omega (arith, c .before .before .before .loop-test .taken) in (
       record {
         counts = s .pre .0 .counts;
-        nodes = omega (arith, mul-le-mul-right (countY (s .args .t5) * countZ (s .args .t5)) h, add-mul (l .i) 2 (countY (s .args .t5) * countZ (s .args .t5)), mul-assoc (countX (s .args .t5)) (countY (s .args .t5)) (countZ (s .args .t5)), s .pre .1);
+        nodes = omega (arith, c .of .ensures, mul-le-mul-right P h, add-mul (l .i) 2 P, mul-assoc (countX (a .t5)) (countY (a .t5)) (countZ (a .t5)), s .pre .1);
         edges = s .pre .0 .edges;
         most = s .pre .0 .most;
       },
-      room-cell (s .args .table .now) (edgePoint (s .args .values .now) (s .args .t5) (s .args .iso)) (countX (s .args .t5) - 1) (l .i) (λ i. planeFaces (s .args .values .now) (countY (s .args .t5)) (countZ (s .args .t5)) (s .args .iso) (i * (countY (s .args .t5) * countZ (s .args .t5))) (countY (s .args .t5) - 1)) less (s .pre .2) (l .inv .0),
+      subst (λ (n : ℕ). Room (a .table .now) (edgePoint (a .values .now) (a .t5) (a .iso)) (l .vertices) (l .faces) (record { vertices = l .placed; faces = l .written }) (planeFaces (a .values .now) (countY (a .t5)) (countZ (a .t5)) (a .iso) n (countY (a .t5) - 1))) (sym (c .of .ensures))
+          (room-cell (a .table .now) (edgePoint (a .values .now) (a .t5) (a .iso)) (countX (a .t5) - 1) (l .i) (λ i. planeFaces (a .values .now) (countY (a .t5)) (countZ (a .t5)) (a .iso) (i * P) (countY (a .t5) - 1)) less (s .pre .2) (l .inv .0)),
       s .pre .3,
       s .pre .4,
     )
 
 add-i : tie.Need-add-i Inv-loop μ-loop
 add-i c =
-    let s = c .before .before .before .before .before .before .before .before .before .before .before .before .before .before .before .before in
+    let s = c .before .before .before .before .before .before .before .before .before .before .before .before .before .before .before .before .before in
     let p : 0 < (countY (s .args .t5) * countZ (s .args .t5)) = omega (arith, mul-le-mul-right (countZ (s .args .t5)) (s .pre .0 .counts .two-y), s .pre .0 .counts .two-z) in
-    omega (arith, c .before .before .before .before .before .before .before .before .loop .inv .1, le-mul-of-pos-right (countX (s .args .t5)) p, mul-assoc (countX (s .args .t5)) (countY (s .args .t5)) (countZ (s .args .t5)), s .pre .1, s .pre .0 .most)
+    omega (arith, c .before .before .before .before .before .before .before .before .before .loop .inv .1, le-mul-of-pos-right (countX (s .args .t5)) p, mul-assoc (countX (s .args .t5)) (countY (s .args .t5)) (countZ (s .args .t5)), s .pre .1, s .pre .0 .most)
 
 loop-less : tie.Need-loop-less Inv-loop μ-loop
-loop-less c = omega (arith, c .before .before .before .before .before .before .before .loop-test .taken)
+loop-less c = omega (arith, c .before .before .before .before .before .before .before .before .loop-test .taken)
 
 loop-again : tie.Need-loop-again Inv-loop μ-loop
 loop-again c =
-    let s = c .before .before .before .before .before .before .before .before .before .before .before .before .before .before .before .before in
-    let l = c .before .before .before .before .before .before .before .before .loop in
+    let a = c .before .before .before .before .before .before .before .before .before .before .before .before .before .before .before .before .before .args in
+    let l = c .before .before .before .before .before .before .before .before .before .loop in
     let o = c .before .before .before .before .write-plane in
-    (written-more-cells (s .args .table .now) (edgePoint (s .args .values .now) (s .args .t5) (s .args .iso)) (l .i) (λ i. planeFaces (s .args .values .now) (countY (s .args .t5)) (countZ (s .args .t5)) (s .args .iso) (i * (countY (s .args .t5) * countZ (s .args .t5))) (countY (s .args .t5) - 1)) (l .inv .0) (o .ensures), omega (arith, c .before .before .before .before .before .before .before .loop-test .taken))
+    let plane = subst (λ (n : ℕ). Written (a .table .now) (edgePoint (a .values .now) (a .t5) (a .iso)) (l .vertices) (o .last .0) (l .faces) (o .last .1 .0) (record { vertices = l .placed; faces = l .written }) (o .result) (planeFaces (a .values .now) (countY (a .t5)) (countZ (a .t5)) (a .iso) n (countY (a .t5) - 1))) (c .before .before .before .before .before .of .ensures) (o .ensures) in
+    (written-more-cells (a .table .now) (edgePoint (a .values .now) (a .t5) (a .iso)) (l .i) (λ i. planeFaces (a .values .now) (countY (a .t5)) (countZ (a .t5)) (a .iso) (i * (countY (a .t5) * countZ (a .t5))) (countY (a .t5) - 1)) (l .inv .0) plane, omega (arith, c .before .before .before .before .before .before .before .before .loop-test .taken))
 
 same-length : tie.Need-same-length Inv-loop μ-loop
 same-length c = let s = c .before .before .before .before .before .before .before .before .before in vertices-kept (s .args .table .now) (edgePoint (s .args .values .now) (s .args .t5) (s .args .iso)) (c .before .loop .inv .0)
@@ -95,7 +102,7 @@ returns c =
     let l = c .before .loop in
     let a = s .args in
     let e : l .i ≡ countX (a .t5) - 1 = omega (arith, l .inv .1, c .loop-test .left) in
-    subst (λ (k : ℕ). Written (a .table .now) (edgePoint (s .args .values .now) (s .args .t5) (s .args .iso)) (a .vertices .now) (l .vertices) (a .faces .now) (l .faces) none (record { vertices = l .placed; faces = l .written })
+    subst (λ (k : ℕ). Written (a .table .now) (edgePoint (a .values .now) (a .t5) (a .iso)) (a .vertices .now) (l .vertices) (a .faces .now) (l .faces) none (record { vertices = l .placed; faces = l .written })
     (blockFaces (a .values .now) (countY (a .t5)) (countZ (a .t5)) (a .iso) k)) e (l .inv .0)
 
 pub write-planes-spec : {M : Type 1} → statement M
@@ -110,7 +117,8 @@ write-planes-spec =
     mul-plane
     loop-holds
     add-loop
-    mul-write-plane
+    mul-of
+    of-requires
     write-plane-requires
     add-i
     loop-less

@@ -33,7 +33,7 @@ returns : tie.Need-returns
 unfolding levelFrom
 returns c =
     let side = c .before .before .before .before .before .before .before .before .before .before .before .before .before .before .before .before .before .before .before .before .before .before .before .before in
-    c .before .before .before .before .before .before .before .before .conjugate-gradient .ensures ∙ rw (side .right-side .ensures .0)
+    c .before .before .before .before .before .before .before .before .conjugate-gradient .ensures .of-x ∙ rw (side .right-side .ensures .0)
 
 pub level-spec : {M : Type 1} → statement M
 level-spec =

@@ -1,27 +1,21 @@
--- `solver::conjugate_gradient` meets its contract: a zero right side leaves x, and any other has its start and its turns (Steps). Assumes nothing.
-use denote.Ref.{now}
-use Rattle.solver.proofs.Steps.{zero-stays, turns-are}
+-- `solver::conjugate_gradient` meets its contract: the steps, then the three scratch slices cleared. Assumes nothing.
+use mathlib.Core.Path.{ap, _∙_}
+use Rattle.lists.specs.Lists.{zeros32}
 use borrow.Author.Needs.{needs}
 use Rattle.solver.proofs.gradients.conjugate_gradient.Statement.{statement}
 use Rattle.solver.proofs.gradients.conjugate_gradient.Tie as tie
 
-squares-requires : tie.Need-squares-requires
-squares-requires c κs = search needs
+descend-requires : tie.Need-descend-requires
+descend-requires c κs = search needs
 
-root64-requires : tie.Need-root64-requires
-root64-requires c κs = search needs
+clear-f32-requires : tie.Need-clear-f32-requires
+clear-f32-requires c κs = search needs
 
-returns : tie.Need-returns
-returns c =
-    let squares = c .before .before in
-    let s = squares .before .before .before .before .before .before in
-    zero-stays (s .args .g) (s .args .tolerance) (s .args .cap) (now (s .args .b)) (now (s .args .x)) (squares .squares .ensures) (c .before .root64 .ensures) (c .if1 .taken)
+clear-f32-requires-2 : tie.Need-clear-f32-requires-2
+clear-f32-requires-2 c κs = search needs
 
-begin-requires : tie.Need-begin-requires
-begin-requires c κs = search needs
-
-turns-requires : tie.Need-turns-requires
-turns-requires c κs = search needs
+clear-f32-requires-3 : tie.Need-clear-f32-requires-3
+clear-f32-requires-3 c κs = search needs
 
 same-length : tie.Need-same-length
 same-length c = search needs
@@ -35,26 +29,28 @@ same-length-3 c = search needs
 same-length-4 : tie.Need-same-length-4
 same-length-4 c = search needs
 
-returns-2 : tie.Need-returns-2
-returns-2 c =
-    let turns = c .before .before .before .before .before .before .before .before in
-    let begin = turns .before .before .before .before .before .before .before .before .before .before .before in
-    let root = begin .before .before .before .before .before .before in
-    let squares = root .before in
-    let s = squares .before .before .before .before .before .before in
-    turns-are (s .args .g) (s .args .tolerance) (s .args .cap) (now (s .args .b)) (now (s .args .x)) (squares .squares .ensures) (root .root64 .ensures) (begin .before .before .before .before .before .if1 .left) (begin .begin .ensures) (turns .turns .ensures)
+returns : tie.Need-returns
+returns c =
+    let o = c .before .before .before .before .before .before .before .before .before .before .before .before .before .before .before .before .before .before .before .before .descend in
+    let s = c .before .before .before .before .before .before .before .before .before .before .before .before .before .before .before .before .before .before .before .before .before .before .before .before .before .before .before .before .before .before in
+    let size = s .pre .0 in
+    record {
+      of-x = o .ensures;
+      of-r = c .before .before .before .before .before .before .before .before .before .before .clear-f32 .ensures ∙ ap zeros32 (o .kept .1 .1 .1 .0 ∙ size .of-r);
+      of-p = c .before .before .before .before .before .before .clear-f322 .ensures ∙ ap zeros32 (o .kept .1 .1 .1 .1 .0 ∙ size .of-p);
+      of-ap = c .before .before .clear-f323 .ensures ∙ ap zeros32 (o .kept .1 .1 .1 .1 .1 .0 ∙ size .of-ap);
+    }
 
 pub conjugate-gradient-spec : {M : Type 1} → statement M
 conjugate-gradient-spec =
     tie.close
     (tie.spec
-    squares-requires
-    root64-requires
-    returns
-    begin-requires
-    turns-requires
+    descend-requires
+    clear-f32-requires
+    clear-f32-requires-2
+    clear-f32-requires-3
     same-length
     same-length-2
     same-length-3
     same-length-4
-    returns-2)
+    returns)

@@ -1,13 +1,15 @@
 -- `surface::bounds` meets its contract: before vertex v the box is that of the vertices 0 to v - 1. Assumes nothing.
-use mathlib.Core.Path.{_≡_, sym, ap, _∙_}
-use mathlib.Core.List.{List}
-use Prim.Native.Nat.{ℕ, suc, _+_, _-_, _≤_, _<_}
+use mathlib.Core.Path.{_≡_, refl, sym, ap, _∙_}
+use mathlib.Core.List.{List, [], _∷_}
+use Prim.Native.Nat.{ℕ, suc, _+_, _-_, _*_, _≤_, _<_}
+use native.Mathlib.Nat.{add-zero}
 use native.Mathlib.Omega.{arith}
-use borrow.Author.Needs.{needs}
 use lib.Ieee.{Float}
+use Rattle.lists.specs.Lists.{at}
 use denote.Ref.{now}
 use Rattle.surface.specs.declared.reach.VertexBox.{VertexBox}
 use Rattle.surface.specs.Surface.{vertexCount, vertexAt, reachedBy, boxTo, boxFor, boxOf}
+use borrow.Author.Needs.{needs}
 use Rattle.surface.proofs.reach.bounds.Statement.{statement}
 use Rattle.surface.proofs.reach.bounds.Tie as tie
 
@@ -35,15 +37,18 @@ returns : tie.Need-returns Inv-loop μ-loop
 unfolding boxOf
 returns c = rw (c .if1 .taken)
 
-place-at-requires : tie.Need-place-at-requires Inv-loop μ-loop
-place-at-requires c κs = omega arith
+triple-at-requires : tie.Need-triple-at-requires Inv-loop μ-loop
+triple-at-requires c κs = omega arith
 
 loop-holds : tie.Need-loop-holds Inv-loop μ-loop
 unfolding boxTo
-loop-holds c = (omega arith, omega arith, rw (c .place-at .ensures))
+loop-holds c = (omega arith, omega arith, rw (c .triple-at .ensures))
 
-place-at-requires-2 : tie.Need-place-at-requires-2 Inv-loop μ-loop
-place-at-requires-2 c κs = omega arith
+mul-triple-at : tie.Need-mul-triple-at Inv-loop μ-loop
+mul-triple-at c = omega arith
+
+triple-at-requires-2 : tie.Need-triple-at-requires-2 Inv-loop μ-loop
+triple-at-requires-2 c κs = omega arith
 
 reach-requires : tie.Need-reach-requires Inv-loop μ-loop
 reach-requires c κs = search needs
@@ -57,11 +62,12 @@ loop-less c = omega arith
 loop-again : tie.Need-loop-again Inv-loop μ-loop
 loop-again c =
     let q = c .before .before .before .loop in
-    let vs = now (c .before .before .before .before .before .before .before .args .vertices) in (
+    let vs = now (c .before .before .before .before .before .before .before .args .vertices) in
+    let here : at vs (3 * q .v) ∷ at vs (3 * q .v + 1) ∷ at vs (3 * q .v + 2) ∷ [] ≡ vertexAt vs (q .v) = rw add-zero refl in (
       omega arith,
       omega arith,
       c .reach .ensures
-          ∙ ap (λ (p : List Float). reachedBy (q .b) p) (c .before .place-at2 .ensures)
+          ∙ ap (λ (p : List Float). reachedBy (q .b) p) (c .before .triple-at2 .ensures ∙ here)
           ∙ ap (λ (b : VertexBox). reachedBy b (vertexAt vs (q .v))) (q .inv .2)
           ∙ sym (box-more vs (q .v) (q .inv .0)),
     )
@@ -81,9 +87,10 @@ bounds-spec =
     Inv-loop
     μ-loop
     returns
-    place-at-requires
+    triple-at-requires
     loop-holds
-    place-at-requires-2
+    mul-triple-at
+    triple-at-requires-2
     reach-requires
     add-v
     loop-less

@@ -22,13 +22,31 @@ loop-holds : tie.Need-loop-holds Inv-loop μ-loop
 unfolding gathered
 loop-holds c = (refl, refl, refl, refl, omega arith)
 
+mul-carry : tie.Need-mul-carry Inv-loop μ-loop
+mul-carry c = omega (arith, c .before .before .before .before .before .before .before .before .before .before .pre .marks)
+
+shared-slice-read-carry : tie.Need-shared-slice-read-carry Inv-loop μ-loop
+shared-slice-read-carry c = omega (arith, c .before .before .before .before .before .before .before .before .before .before .before .pre .marks)
+
+mul-carry-2 : tie.Need-mul-carry-2 Inv-loop μ-loop
+mul-carry-2 c = omega (arith, c .before .before .before .before .before .before .before .before .before .before .before .pre .one-axis)
+
+add-carry : tie.Need-add-carry Inv-loop μ-loop
+add-carry c = omega (arith, c .before .before .before .before .before .before .before .before .before .before .before .pre .one-axis)
+
+mul-carry-3 : tie.Need-mul-carry-3 Inv-loop μ-loop
+mul-carry-3 c = omega (arith, c .before .before .before .before .before .before .before .before .before .before .before .pre .one-axis)
+
+shared-slice-read-carry-2 : tie.Need-shared-slice-read-carry-2 Inv-loop μ-loop
+shared-slice-read-carry-2 c = omega (arith, c .before .before .before .before .before .before .before .before .before .before .before .before .pre .one-axis)
+
 carry-requires : tie.Need-carry-requires Inv-loop μ-loop
 carry-requires c κs =
-    let s = c .before .before .before .before .before .before .before .before .before .before in
-    let q = c .before .before .before .before .loop in
+    let s = c .before .before .before .before .before .before .before .before .before .before .before .before in
+    let q = c .before .before .before .before .before .before .loop in
     let even : Even (q .a) (q .b) (q .c) = record { second = omega (arith, q .inv, s .pre .even); third = omega (arith, q .inv, s .pre .even) } in
     let fits : getD (now (s .args .table)) (q .v) 0 ≤ 3 * length (q .a) = omega (arith, q .inv .1, s .pre .numbered (q .v) (omega arith)) in
-    (even, ((s .pre .one-axis, omega arith, omega (arith, s .pre .marks)), fits))
+    (even, fits)
 
 add-v : tie.Need-add-v Inv-loop μ-loop
 add-v c = omega arith
@@ -39,8 +57,8 @@ loop-less c = omega arith
 loop-again : tie.Need-loop-again Inv-loop μ-loop
 unfolding gathered
 loop-again c =
-    let s = c .before .before .before .before .before .before .before .before .before .before .before .before .before .before .before .before .before in
-    let q = c .before .before .before .before .before .before .before .before .before .before .before .loop in
+    let s = c .before .before .before .before .before .before .before .before .before .before .before .before .before .before .before .before .before .before .before in
+    let q = c .before .before .before .before .before .before .before .before .before .before .before .before .before .loop in
     let carry = c .before .before .before .before .before .before .carry in
     let more : gathered (now (s .args .table)) (now (s .args .vertices)) (s .args .axis) (lines (now (s .args .a)) (now (s .args .b)) (now (s .args .c))) (q .v + 1)
     ≡ carried (gathered (now (s .args .table)) (now (s .args .vertices)) (s .args .axis) (lines (now (s .args .a)) (now (s .args .b)) (now (s .args .c))) (q .v)) (getD (now (s .args .table)) (q .v) 0) (coordinate (now (s .args .vertices)) (q .v) (s .args .axis)) =
@@ -48,9 +66,9 @@ loop-again c =
       carry .ensures
           ∙ ap (λ (l : List Float). carried l (getD (now (s .args .table)) (q .v) 0) (coordinate (now (s .args .vertices)) (q .v) (s .args .axis))) (q .inv .0)
           ∙ sym more,
-      carry .kept .1 .1 .0 ∙ q .inv .1,
-      carry .kept .1 .1 .1 .0 ∙ q .inv .2,
-      carry .kept .1 .1 .1 .1 .0 ∙ q .inv .3,
+      carry .kept .0 ∙ q .inv .1,
+      carry .kept .1 .0 ∙ q .inv .2,
+      carry .kept .1 .1 .0 ∙ q .inv .3,
       omega arith,
     )
 
@@ -77,6 +95,12 @@ gather-spec =
     Inv-loop
     μ-loop
     loop-holds
+    mul-carry
+    shared-slice-read-carry
+    mul-carry-2
+    add-carry
+    mul-carry-3
+    shared-slice-read-carry-2
     carry-requires
     add-v
     loop-less

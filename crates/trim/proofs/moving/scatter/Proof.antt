@@ -7,6 +7,7 @@ use denote.Ref.{now}
 use lib.ListN.{length}
 use Rattle.trim.specs.Passes.{lines, scattered}
 use Rattle.trim.proofs.OneAxis.{length-scattered}
+use borrow.Author.Needs.{needs}
 use Rattle.trim.proofs.moving.scatter.Statement.{statement}
 use Rattle.trim.proofs.moving.scatter.Tie as tie
 
@@ -20,22 +21,28 @@ loop-holds : tie.Need-loop-holds Inv-loop μ-loop
 unfolding scattered
 loop-holds c = (refl, omega arith)
 
+of-requires : tie.Need-of-requires Inv-loop μ-loop
+of-requires c κs = search needs
+
 get-requires : tie.Need-get-requires Inv-loop μ-loop
-get-requires c κs = (c .before .before .before .before .before .before .pre .0, omega (arith, c .before .before .before .before .before .before .pre .1))
+get-requires c κs = (c .before .before .before .before .before .before .before .pre .0, omega (arith, c .of .ensures, c .before .before .before .before .before .before .before .pre .1))
+
+cast-vertices : tie.Need-cast-vertices Inv-loop μ-loop
+cast-vertices c = search needs
 
 mul-vertices : tie.Need-mul-vertices Inv-loop μ-loop
-mul-vertices c = omega (arith, c .before .before .before .before .before .before .before .pre .1)
+mul-vertices c = omega (arith, c .before .before .before .before .before .before .before .before .pre .1)
 
 add-vertices : tie.Need-add-vertices Inv-loop μ-loop
-add-vertices c = omega (arith, c .before .before .before .before .before .before .before .pre .1)
+add-vertices c = omega (arith, c .before .before .before .before .before .before .before .before .pre .1)
 
 mul-vertices-2 : tie.Need-mul-vertices-2 Inv-loop μ-loop
-mul-vertices-2 c = omega (arith, c .before .before .before .before .before .before .before .pre .1)
+mul-vertices-2 c = omega (arith, c .before .before .before .before .before .before .before .before .pre .1)
 
 slice-write-vertices : tie.Need-slice-write-vertices Inv-loop μ-loop
 slice-write-vertices c =
-    let s = c .before .before .before .before .before .before .before in
-    let q = c .before .before .loop in
+    let s = c .before .before .before .before .before .before .before .before in
+    let q = c .before .before .before .loop in
     omega (arith, s .pre .1, ap length (q .inv .0) ∙ length-scattered (lines (now (s .args .a)) (now (s .args .b)) (now (s .args .c))) (s .args .axis) (now (s .args .vertices)) (q .w))
 
 add-w : tie.Need-add-w Inv-loop μ-loop
@@ -47,9 +54,9 @@ loop-less c = omega arith
 loop-again : tie.Need-loop-again Inv-loop μ-loop
 unfolding scattered
 loop-again c =
-    let s = c .before .before .before .before .before .before .before in
-    let q = c .before .before .loop in
-    (rw (c .get .ensures, q .inv .0, add-one) refl, omega arith)
+    let s = c .before .before .before .before .before .before .before .before in
+    let q = c .before .before .before .loop in
+    (rw (c .get .ensures, c .before .of .ensures, q .inv .0, add-one) refl, omega arith)
 
 same-length : tie.Need-same-length Inv-loop μ-loop
 same-length c =
@@ -71,7 +78,9 @@ scatter-spec =
     Inv-loop
     μ-loop
     loop-holds
+    of-requires
     get-requires
+    cast-vertices
     mul-vertices
     add-vertices
     mul-vertices-2

@@ -1,0 +1,2 @@
+-- A word of this crate's contracts.
+pub mod Side
