@@ -14,9 +14,9 @@ use extract::Totals;
 use grid::Lattice;
 use libc::STDIN_FILENO;
 use libc::STDOUT_FILENO;
-use words::read_decimal;
+use replay::read_decimal;
+use replay::read_hex;
 use words::read_header;
-use words::read_hex;
 use words::read_values;
 use words::skip_word;
 

@@ -2,38 +2,8 @@
 ghost use Prim.Native.Nat.{_≤_};
 ghost use lib.ListN.{length};
 use grid::Lattice;
-
-// A number, and the place past its word.
-pub struct Number {
-    pub value: u64,
-    pub next: usize,
-}
-
-pub fn read_hex(text: &[u8], at: usize) -> Number
-    requires { ⌜ at ≤ length (now text) ⌝ }
-    ensures { λ r. ⌜ (at ≤ r .next) × (r .next ≤ length (now (text .entry))) ⌝ }
-{
-    let word = replay::next_word(text, at);
-    let from = word.from;
-    let to = word.to;
-    Number {
-        value: replay::hex(&text[from..to]),
-        next: to,
-    }
-}
-
-pub fn read_decimal(text: &[u8], at: usize) -> Number
-    requires { ⌜ at ≤ length (now text) ⌝ }
-    ensures { λ r. ⌜ (at ≤ r .next) × (r .next ≤ length (now (text .entry))) ⌝ }
-{
-    let word = replay::next_word(text, at);
-    let from = word.from;
-    let to = word.to;
-    Number {
-        value: replay::decimal(&text[from..to]),
-        next: to,
-    }
-}
+use replay::read_decimal;
+use replay::read_hex;
 
 // Past a word that names what follows.
 pub fn skip_word(text: &[u8], at: usize) -> usize

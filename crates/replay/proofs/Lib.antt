@@ -1,1 +1,3 @@
 pub mod Leading
+pub mod Located
+pub mod Cut

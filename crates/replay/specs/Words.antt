@@ -1,8 +1,9 @@
 -- What the programs read that replay lists of worked values: words between blanks, and numbers in hexadecimal and in decimal. Definitions only; assumes nothing.
 use Prim.Native.Nat.{ℕ, suc, _+_, _-_, _*_, _%_, _^_}
-use mathlib.Core.Bool.{Bool, Bool·beq, cond}
+use mathlib.Core.Bool.{Bool, true, false, Bool·beq, cond}
 use mathlib.Core.List.{List, [], _∷_}
 use lib.Dec.{leb, ltb}
+use lib.ListN.{take, drop}
 
 -- a space, a line's end, or any other byte up to the space
 abbrev pub blank : ℕ → Bool
@@ -12,6 +13,17 @@ blank b = leb b 32
 unfoldable pub leading : Bool → List ℕ → ℕ
 leading kind [] = 0
 leading kind (b ∷ l) = cond (Bool·beq (blank b) kind) (suc (leading kind l)) 0
+
+-- where the next word from a place on starts, and the place past its last byte
+abbrev pub startOf : ℕ → List ℕ → ℕ
+startOf at text = at + leading true (drop at text)
+
+abbrev pub endOf : ℕ → List ℕ → ℕ
+endOf at text = startOf at text + leading false (drop (startOf at text) text)
+
+-- that word
+abbrev pub wordOf : ℕ → List ℕ → List ℕ
+wordOf at text = take (endOf at text - startOf at text) (drop (startOf at text) text)
 
 -- the value of a digit 0..9 or A..F, and 0 of any other byte
 abbrev pub digitOf : ℕ → ℕ

@@ -1,9 +1,9 @@
 // Lists of worked values, for the programs that replay them: words between blanks, numbers in hexadecimal and in decimal.
 ghost use mathlib.Core.Path.{_≡_};
 ghost use mathlib.Core.Bool.{Bool, true, false};
-ghost use Prim.Native.Nat.{_+_, _-_, _≤_, _<_};
+ghost use Prim.Native.Nat.{_+_, _≤_, _<_};
 ghost use lib.ListN.{length, take, drop};
-ghost use Rattle.replay.specs.Words.{blank, leading, digitOf, hexOf, decimalOf};
+ghost use Rattle.replay.specs.Words.{blank, leading, digitOf, hexOf, decimalOf, endOf, wordOf};
 
 // A word's first place, and the place past its last byte.
 pub struct Word {
@@ -87,4 +87,36 @@ pub fn decimal(text: &[u8]) -> u64
         i += 1;
     }
     v
+}
+
+// A number, and the place past its word.
+pub struct Number {
+    pub value: u64,
+    pub next: usize,
+}
+
+pub fn read_hex(text: &[u8], at: usize) -> Number
+    requires { ⌜ at ≤ length (now text) ⌝ }
+    ensures { λ r. ⌜ (r .value ≡ hexOf (wordOf at (now (text .entry)))) × (r .next ≡ endOf at (now (text .entry))) × (r .next ≤ length (now (text .entry))) ⌝ }
+{
+    let word = next_word(text, at);
+    let from = word.from;
+    let to = word.to;
+    Number {
+        value: hex(&text[from..to]),
+        next: to,
+    }
+}
+
+pub fn read_decimal(text: &[u8], at: usize) -> Number
+    requires { ⌜ at ≤ length (now text) ⌝ }
+    ensures { λ r. ⌜ (r .value ≡ decimalOf (wordOf at (now (text .entry)))) × (r .next ≡ endOf at (now (text .entry))) × (r .next ≤ length (now (text .entry))) ⌝ }
+{
+    let word = next_word(text, at);
+    let from = word.from;
+    let to = word.to;
+    Number {
+        value: decimal(&text[from..to]),
+        next: to,
+    }
 }

@@ -2,6 +2,7 @@
 //!
 //! `build.rs` makes the text of the module `poisson` from the published one; marching_cubes.rs and the k-d tree are as
 //! published. [`answer`] is one call.
+pub mod calls;
 pub mod cases;
 pub mod sheets;
 pub mod window;

@@ -1,7 +1,10 @@
 //! oracle run < CASE       prints the answer to a library case
 //! oracle check FOLDER     answers every case of a folder anew and compares with the answer beside it
 //! oracle sheets FOLDER    the same for the sheets of the preview program
+//! oracle calls FOLDER     prints the list of calls, of the cases in a folder, that the port's program `calls_replayed` reads
+//! oracle answers FOLDER   prints what that program must print
 //! oracle text             prints the patched text as it is compiled
+use oracle::calls;
 use oracle::cases::{show, Case};
 use oracle::sheets::printed;
 use std::error::Error;
@@ -57,11 +60,13 @@ fn main() {
             compare(Path::new(folder), "case", |case, wanted| run(case, wanted.contains("hash-vertices")))
         }
         ["sheets", folder] => compare(Path::new(folder), "in", |sheet, _| Ok(printed(sheet))),
+        ["calls", folder] => calls::list(Path::new(folder)).map(|text| print!("{text}")),
+        ["answers", folder] => calls::answers(Path::new(folder)).map(|text| print!("{text}")),
         ["text"] => {
             print!("{}", oracle::PATCHED_TEXT);
             Ok(())
         }
-        _ => Err("usage: oracle run < CASE | oracle check FOLDER | oracle sheets FOLDER | oracle text".into()),
+        _ => Err("usage: oracle run < CASE | oracle check FOLDER | oracle sheets FOLDER | oracle calls FOLDER | oracle answers FOLDER | oracle text".into()),
     };
     if let Err(error) = done {
         eprintln!("oracle: {error}");

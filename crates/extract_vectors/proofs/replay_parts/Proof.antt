@@ -1,7 +1,7 @@
 -- `extract_vectors::replay_parts` cuts parts of N and of 3N elements. Assumes nothing.
 use mathlib.Core.Path.{ap, _∙_}
 use Prim.Native.Nat.{ℕ, _*_, _≤_}
-use Rattle.extract_vectors.proofs.Cut.{cut, half, rubbish}
+use Rattle.replay.proofs.Cut.{cut, half, rubbish}
 use Prim.Native.Nat.{_≤_}
 use native.Mathlib.Omega.{arith}
 use borrow.Author.Needs.{needs}

@@ -1,0 +1,51 @@
+-- `calls_replayed::take_points` cuts off as many numbers as there are. Assumes nothing.
+use native.Mathlib.Omega.{arith}
+use lib.ListN.{length-take}
+use borrow.Author.Needs.{needs}
+use Rattle.calls_replayed.proofs.take_points.Statement.{statement}
+use Rattle.calls_replayed.proofs.take_points.Tie as tie
+
+read-decimal-requires : tie.Need-read-decimal-requires
+read-decimal-requires c κs = search needs
+
+at-most-requires : tie.Need-at-most-requires
+at-most-requires c κs = search needs
+
+slice-relend-prefix-read-floats : tie.Need-slice-relend-prefix-read-floats
+slice-relend-prefix-read-floats c = search needs
+
+slice-aggregate-read-floats : tie.Need-slice-aggregate-read-floats
+slice-aggregate-read-floats c = simp length-take (omega arith)
+
+read-floats-requires : tie.Need-read-floats-requires
+read-floats-requires c κs = search needs
+
+slice-reshare-prefix-lend : tie.Need-slice-reshare-prefix-lend
+slice-reshare-prefix-lend c = search needs
+
+slice-aggregate-lend : tie.Need-slice-aggregate-lend
+slice-aggregate-lend c = simp length-take (omega arith)
+
+lend-requires : tie.Need-lend-requires
+lend-requires c κs = search needs
+
+same-length : tie.Need-same-length
+same-length c = search needs
+
+returns : tie.Need-returns
+returns c = search needs
+
+pub take-points-spec : {M : Type 1} → statement M
+take-points-spec =
+    tie.close
+    (tie.spec
+    read-decimal-requires
+    at-most-requires
+    slice-relend-prefix-read-floats
+    slice-aggregate-read-floats
+    read-floats-requires
+    slice-reshare-prefix-lend
+    slice-aggregate-lend
+    lend-requires
+    same-length
+    returns)
