@@ -1,5 +1,5 @@
 //! What A x, a pass of the blur, a turn of conjugate gradients and the whole solve cost on this machine, beside the Rust source's own loops on one thread (the oracle's
-//! text): the best of several runs, in processor time. Both sides' values are compared by bits first. All slices lie side by side in one block.
+//! text): the best of several runs, in processor time. Both sides' values are compared by bits. All slices lie side by side in one block.
 //! usage: cargo run --release --bin solver_bench        (in native/, after scripts/native-archive solver_export)
 use native::clock::best;
 use native::{brute, solver, stored32, Patterns};
