@@ -6,6 +6,13 @@ pub mod clock;
 pub mod extract;
 pub mod points;
 
+/// Marching cubes as published: what `extract_export` is compared with.
+#[allow(dead_code)]
+#[path = "../../oracle/seed/threecrate-reconstruction/src/marching_cubes.rs"]
+mod marching_cubes;
+#[path = "../../oracle/seed/threecrate-reconstruction/src/parallel.rs"]
+mod parallel;
+
 mod exported {
     extern "C" {
         pub fn hoardmagpie_root32(x: f32) -> f32;
