@@ -7,6 +7,13 @@ pub mod extract;
 pub mod points;
 pub mod solver;
 
+/// Marching cubes as published: what `extract_export` is compared with.
+#[allow(dead_code)]
+#[path = "../../oracle/seed/threecrate-reconstruction/src/marching_cubes.rs"]
+mod marching_cubes;
+#[path = "../../oracle/seed/threecrate-reconstruction/src/parallel.rs"]
+mod parallel;
+
 mod exported {
     extern "C" {
         pub fn hoardmagpie_root32(x: f32) -> f32;

@@ -1,7 +1,7 @@
 -- The words of the passes' contracts: cells and their faces by the number of their corner 0, a state that goes from edge to edge, and what the passes ask
 -- and promise. The laws that turn them into the words of Extraction are in proofs/. Definitions only; assumes nothing.
 use mathlib.Core.Path.{_≡_}
-use mathlib.Core.Bool.{cond}
+use mathlib.Core.Bool.{Bool, cond, _||_}
 use mathlib.Core.List.{List, [], _∷_, map, foldl}
 use Prim.Native.Nat.{ℕ, suc, _+_, _-_, _*_, _%_, _≤_, _<_}
 use lib.Dec.{eqb}
@@ -40,6 +40,14 @@ sideAt values ny nz iso n =
 -- how many of the nz nodes from n on are below
 abbrev pub belowIn : (values : List Float) (nz : ℕ) (iso : Float) (n : ℕ) → ℕ
 belowIn values nz iso n = sum nz (λ k. bit (isBelow (at values (n + k)) iso))
+
+-- of the four rows of nodes round the line of cells from n on; and whether that is none of them, or all
+abbrev pub lineBelow : (values : List Float) (ny nz : ℕ) (iso : Float) (n : ℕ) → ℕ
+lineBelow values ny nz iso n =
+    belowIn values nz iso n + belowIn values nz iso (n + ny * nz) + belowIn values nz iso (n + ny * nz + nz) + belowIn values nz iso (n + nz)
+
+abbrev pub plainLine : (values : List Float) (ny nz : ℕ) (iso : Float) (n : ℕ) → Bool
+plainLine values ny nz iso n = eqb (lineBelow values ny nz iso n) 0 || eqb (lineBelow values ny nz iso n) (4 * nz)
 
 unfoldable pub caseAt : (values : List Float) (ny nz : ℕ) (iso : Float) (n : ℕ) → ℕ
 caseAt values ny nz iso n = caseOf (λ c. isBelow (at values (n + nodeOffset ny nz c)) iso)

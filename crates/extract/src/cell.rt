@@ -1,13 +1,11 @@
-// A cell: its case, by the values at its corners, and its edges. Cells are named by the number of their corner 0, so that the loops only add.
+// A cell: its case, by the values at its corners, and its edges. A cell is named by the node at its corner 0, so that the loops only add.
 ghost use mathlib.Core.Path.{_≡_};
-ghost use mathlib.Core.Bool.{true};
-ghost use mathlib.Core.List.{[]};
-ghost use Prim.Native.Nat.{_+_, _-_, _*_, _<_, _≤_};
+ghost use Prim.Native.Nat.{_+_, _*_, _<_, _≤_};
 ghost use lib.ListN.{length, getD};
 ghost use Rattle.closed.specs.Lists.{bit};
 ghost use Rattle.grid.specs.Grid.{Counts};
 ghost use Rattle.extract.specs.Extraction.{isBelow, countY, countZ};
-ghost use Rattle.extract.specs.Passes.{sideAt, belowIn, lineFaces, edgeOffset, offsetsOf};
+ghost use Rattle.extract.specs.Passes.{sideAt, belowIn, plainLine, edgeOffset, offsetsOf};
 use grid::Edge;
 use grid::Lattice;
 use grid::Node;
@@ -53,11 +51,10 @@ fn count_below(values: &[f32], first: Node, nz: usize, iso: f32) -> usize
     count as usize
 }
 
-// Whether the four rows of nodes round the line of cells from a node on are all below or all not. Then its cases are 0 or 255 and it has no face; only this is
-// promised, for it only saves going through the cells.
+// Whether the four rows of nodes round the line of cells from a node on are all below or all not. Then its cases are 0 or 255, and it has no face.
 pub fn is_plain(values: &[f32], ny: usize, nz: usize, from: Node, iso: f32) -> bool
     requires { ⌜ (from .0 + ny * nz + nz + nz ≤ length (now values)) × (length (now values) ≤ 16777216) ⌝ }
-    ensures { λ r. ⌜ (r ≡ true → lineFaces (now (values .entry)) ny nz iso (from .0) (nz - 1) ≡ []) ⌝ }
+    ensures { λ r. ⌜ r ≡ plainLine (now (values .entry)) ny nz iso (from .0) ⌝ }
 {
     let plane = from.0 + ny * nz;
     let count = count_below(values, from, nz, iso)

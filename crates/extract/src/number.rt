@@ -131,7 +131,7 @@ fn number_cells(
     Totals { vertices, faces }
 }
 
-// The same, if it has a face.
+// The same. A plain line has no face, and is passed over.
 fn number_line(
     table: &mut [u32],
     values: &[f32],

@@ -225,7 +225,7 @@ fn write_cells(
     }
 }
 
-// The same, if it has a face.
+// The same. A plain line has no face, and is passed over.
 fn write_line(
     vertices: &mut [f32],
     faces: &mut [u32],

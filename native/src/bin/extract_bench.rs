@@ -2,15 +2,8 @@
 //! processor time. The two meshes are compared bit for bit.
 //! usage: cargo run --release --bin extract_bench        (in native/, after scripts/native-archive extract_export)
 use native::clock::best;
-use native::extract::{number_edges, write_mesh, Cube};
+use native::extract::{flat, number_edges, published, write_mesh, Cube};
 use std::hint::black_box;
-use threecrate_core::TriangleMesh;
-
-#[allow(dead_code)]
-#[path = "../../../oracle/seed/threecrate-reconstruction/src/marching_cubes.rs"]
-mod marching_cubes;
-#[path = "../../../oracle/seed/threecrate-reconstruction/src/parallel.rs"]
-mod parallel;
 
 /// A field over the cube from -1 to 1.
 fn cube(depth: u32, field: fn(f64, f64, f64) -> f64) -> Cube {
@@ -29,32 +22,21 @@ fn torus(x: f64, y: f64, z: f64) -> f64 {
     (((x * x + y * y).sqrt() - 0.6).powi(2) + z * z).sqrt() - 0.25
 }
 
-fn published(cube: &Cube) -> TriangleMesh {
-    let n = cube.nodes;
-    marching_cubes::extract_shared([n; 3], [cube.step; 3], cube.origin, |i, j, k| cube.values[(i * n + j) * n + k], 0.0)
-}
-
-fn compare(cube: &Cube, vertices: &[f32], faces: &[u32]) {
-    let mesh = published(cube);
-    let places: Vec<u32> = mesh.vertices.iter().flat_map(|v| [v.x, v.y, v.z]).map(f32::to_bits).collect();
-    let numbers: Vec<u32> = mesh.faces.iter().flatten().map(|&v| v as u32).collect();
-    assert!(vertices.iter().map(|x| x.to_bits()).eq(places), "vertices");
-    assert!(faces == numbers, "faces");
-}
-
 fn run(name: &str, depth: u32, field: fn(f64, f64, f64) -> f64) {
     let cube = cube(depth, field);
     let mut table = vec![0u32; 3 * cube.values.len()];
     let [v, f] = number_edges(&cube, 0.0, &mut table);
     let (mut vertices, mut faces) = (vec![0f32; 3 * v], vec![0u32; 3 * f]);
     write_mesh(&cube, 0.0, &table, &mut vertices, &mut faces);
-    compare(&cube, &vertices, &faces);
+    let bits = |places: &[f32]| places.iter().map(|x| x.to_bits()).collect::<Vec<_>>();
+    let (places, numbers) = flat(&published(&cube, 0.0));
+    assert!(bits(&vertices) == bits(&places) && faces == numbers, "the two meshes differ");
     let first = best(15, || {
         black_box(number_edges(black_box(&cube), 0.0, &mut table));
     });
     let second = best(15, || write_mesh(black_box(&cube), 0.0, &table, &mut vertices, &mut faces));
     let theirs = best(15, || {
-        black_box(published(black_box(&cube)));
+        black_box(published(black_box(&cube), 0.0));
     });
     println!(
         "{name}, depth {depth}, {v} vertices: {:6.2} + {:6.2} ms   Rust {:6.2} ms   ratio {:.2}",

@@ -1,13 +1,13 @@
--- `extract::cell::is_plain` meets its contract: Plain.
+-- `extract::cell::is_plain` meets its contract: the four counts are those of the rows.
 -- Assumes nothing.
-use mathlib.Core.Path.{_≡_, ap, _∙_}
-use mathlib.Core.Bool.{true}
-use Prim.Native.Nat.{ℕ, _+_, _*_, _≤_}
+use mathlib.Core.Path.{_≡_, sym, ap, _∙_}
+use mathlib.Core.Bool.{Bool, _||_}
+use Prim.Native.Nat.{ℕ, _+_, _*_}
 use native.Mathlib.Omega.{arith}
-use borrow.Author.Tests.{eqb-true}
-use lib.ListN.{length}
-use Rattle.extract.specs.Passes.{belowIn}
-use Rattle.extract.proofs.Plain.{row-most, plain-none, plain-all}
+use borrow.Author.Tests.{ne-eqb}
+use lib.Dec.{eqb}
+use Rattle.extract.specs.Passes.{belowIn, lineBelow}
+use Rattle.extract.proofs.Plain.{row-most}
 use borrow.Author.Needs.{needs}
 use Rattle.extract.proofs.cell.is_plain.Statement.{statement}
 use Rattle.extract.proofs.cell.is_plain.Tie as tie
@@ -66,10 +66,12 @@ add-count-3 c =
 returns : tie.Need-returns
 returns c =
     let a = c .before .before .before .before .before .before .before .before .before .before .before .args in
-    let at : (m : ℕ) → ℕ = belowIn (a .values .now) (a .nz) (a .iso) in
-    λ t.
-    plain-none (a .values .now) (a .ny) (a .nz) (a .iso) (a .from .0) (c .before .before .before .before .before .before .before .before .count-below .result) (c .before .before .before .before .before .before .count-below2 .result) (c .before .before .before .before .count-below3 .result) (c .before .count-below4 .result)
-    (c .before .before .before .before .before .before .before .before .count-below .ensures) (c .before .before .before .before .before .before .count-below2 .ensures ∙ ap at (c .before .before .before .before .before .before .before .of .ensures)) (c .before .before .before .before .count-below3 .ensures ∙ ap at (c .before .before .before .before .before .of2 .ensures)) (c .before .count-below4 .ensures ∙ ap at (c .before .before .of3 .ensures)) (c .if1 .taken)
+    let row : ℕ → ℕ = belowIn (a .values .now) (a .nz) (a .iso) in
+    let plain : ℕ → Bool = λ m. eqb m 0 || eqb m (4 * a .nz) in
+    let count = c .before .before .before .before .before .before .before .before .count-below .result + c .before .before .before .before .before .before .count-below2 .result + c .before .before .before .before .count-below3 .result + c .before .count-below4 .result in
+    let total : count ≡ lineBelow (a .values .now) (a .ny) (a .nz) (a .iso) (a .from .0) =
+    omega (arith, c .before .before .before .before .before .before .before .before .count-below .ensures, c .before .before .before .before .before .before .count-below2 .ensures ∙ ap row (c .before .before .before .before .before .before .before .of .ensures), c .before .before .before .before .count-below3 .ensures ∙ ap row (c .before .before .before .before .before .of2 .ensures), c .before .count-below4 .ensures ∙ ap row (c .before .before .of3 .ensures)) in
+    sym (ap plain (sym total ∙ c .if1 .taken))
 
 mul-result : tie.Need-mul-result
 mul-result c = omega (arith, c .before .before .before .before .before .before .before .before .before .before .before .pre .0, c .before .before .before .before .before .before .before .before .before .before .before .pre .1)
@@ -77,10 +79,12 @@ mul-result c = omega (arith, c .before .before .before .before .before .before .
 returns-2 : tie.Need-returns-2
 returns-2 c =
     let a = c .before .before .before .before .before .before .before .before .before .before .before .args in
-    let at : (m : ℕ) → ℕ = belowIn (a .values .now) (a .nz) (a .iso) in
-    λ t.
-    plain-all (a .values .now) (a .ny) (a .nz) (a .iso) (a .from .0) (c .before .before .before .before .before .before .before .before .count-below .result) (c .before .before .before .before .before .before .count-below2 .result) (c .before .before .before .before .count-below3 .result) (c .before .count-below4 .result)
-    (c .before .before .before .before .before .before .before .before .count-below .ensures) (c .before .before .before .before .before .before .count-below2 .ensures ∙ ap at (c .before .before .before .before .before .before .before .of .ensures)) (c .before .before .before .before .count-below3 .ensures ∙ ap at (c .before .before .before .before .before .of2 .ensures)) (c .before .count-below4 .ensures ∙ ap at (c .before .before .of3 .ensures)) (eqb-true _ _ t)
+    let row : ℕ → ℕ = belowIn (a .values .now) (a .nz) (a .iso) in
+    let plain : ℕ → Bool = λ m. eqb m 0 || eqb m (4 * a .nz) in
+    let count = c .before .before .before .before .before .before .before .before .count-below .result + c .before .before .before .before .before .before .count-below2 .result + c .before .before .before .before .count-below3 .result + c .before .count-below4 .result in
+    let total : count ≡ lineBelow (a .values .now) (a .ny) (a .nz) (a .iso) (a .from .0) =
+    omega (arith, c .before .before .before .before .before .before .before .before .count-below .ensures, c .before .before .before .before .before .before .count-below2 .ensures ∙ ap row (c .before .before .before .before .before .before .before .of .ensures), c .before .before .before .before .count-below3 .ensures ∙ ap row (c .before .before .before .before .before .of2 .ensures), c .before .count-below4 .ensures ∙ ap row (c .before .before .of3 .ensures)) in
+    sym (ap plain (sym total) ∙ ap (λ (t : Bool). t || eqb count (4 * a .nz)) (ne-eqb count 0 (c .if1 .left)))
 
 pub is-plain-spec : {M : Type 1} → statement M
 is-plain-spec =

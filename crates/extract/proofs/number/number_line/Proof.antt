@@ -1,10 +1,11 @@
 -- `extract::number::number_line` meets its contract: a plain line has no face.
 -- Assumes nothing.
-use mathlib.Core.Path.{sym, subst}
+use mathlib.Core.Path.{sym, _∙_, subst}
 use Prim.Native.Nat.{_+_}
 use native.Mathlib.Omega.{arith}
 use Rattle.extract.specs.Passes.{Numbered}
 use Rattle.extract.proofs.Marking.{numbered-none, few-later}
+use Rattle.extract.proofs.Plain.{plain-line}
 use borrow.Author.Needs.{needs}
 use Rattle.extract.proofs.number.number_line.Statement.{statement}
 use Rattle.extract.proofs.number.number_line.Tie as tie
@@ -16,7 +17,7 @@ returns : tie.Need-returns
 returns c =
     let s = c .before .before .before .before in
     let a = s .args in (
-      subst (Numbered (a .table .now) (a .table .now) (a .had) (a .had)) (sym (c .before .is-plain .ensures (c .if1 .taken))) (numbered-none (a .table .now) (a .had)),
+      subst (Numbered (a .table .now) (a .table .now) (a .had) (a .had)) (sym (plain-line (a .values .now) (a .ny) (a .nz) (a .iso) (a .from .0) (sym (c .before .is-plain .ensures) ∙ c .if1 .taken))) (numbered-none (a .table .now) (a .had)),
       few-later (a .from .0) (a .from .0 + a .nz) (s .pre .0 .few) (omega arith),
     )
 

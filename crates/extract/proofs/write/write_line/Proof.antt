@@ -1,10 +1,11 @@
 -- `extract::write::write_line` meets its contract: a plain line has no face.
 -- Assumes nothing.
-use mathlib.Core.Path.{sym, subst}
+use mathlib.Core.Path.{sym, _∙_, subst}
 use native.Mathlib.Omega.{arith}
-use Rattle.extract.specs.Extraction.{edgePoint}
+use Rattle.extract.specs.Extraction.{countY, countZ, edgePoint}
 use Rattle.extract.specs.Passes.{Written}
 use Rattle.extract.proofs.Placing.{written-none}
+use Rattle.extract.proofs.Plain.{plain-line}
 use borrow.Author.Needs.{needs}
 use Rattle.extract.proofs.write.write_line.Statement.{statement}
 use Rattle.extract.proofs.write.write_line.Tie as tie
@@ -22,7 +23,7 @@ returns : tie.Need-returns
 returns c =
     let a = c .before .before .before .before .before .before .before .before .args in
     let point = edgePoint (a .values .now) (a .t5) (a .iso) in
-    subst (Written (a .table .now) point (a .vertices .now) (a .vertices .now) (a .faces .now) (a .faces .now) (a .had) (a .had)) (sym (c .before .is-plain .ensures (c .if1 .taken)))
+    subst (Written (a .table .now) point (a .vertices .now) (a .vertices .now) (a .faces .now) (a .faces .now) (a .had) (a .had)) (sym (plain-line (a .values .now) (countY (a .t5)) (countZ (a .t5)) (a .iso) (a .from .0) (sym (c .before .is-plain .ensures) ∙ c .if1 .taken)))
     (written-none (a .table .now) point (a .vertices .now) (a .faces .now) (a .had))
 
 write-cells-requires : tie.Need-write-cells-requires
