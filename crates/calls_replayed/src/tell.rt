@@ -35,6 +35,34 @@ pub fn tell_digest(name: &[u8], digest: u64) {
     io::write_all(STDOUT_FILENO, b"\n");
 }
 
+pub fn tell_field_answer(answer: Answer) {
+    line(b"field ", answer.number as u64);
+    line(b"field-usable ", answer.usable as u64);
+    io::write_all(STDOUT_FILENO, b"field-level");
+    tell_pattern(answer.level);
+    io::write_all(STDOUT_FILENO, b"\n");
+}
+
+// Eight a line.
+fn end_row(i: usize) {
+    if i % 8 == 7 {
+        io::write_all(STDOUT_FILENO, b"\n");
+    }
+}
+
+// The first `shown` values.
+pub fn tell_values(values: &[f32], shown: usize) {
+    let mut i = 0usize;
+    while i < values.len() {
+        if shown <= i {
+            return;
+        }
+        tell_pattern(values[i]);
+        end_row(i);
+        i += 1;
+    }
+}
+
 pub fn tell_answer(answer: Answer) {
     line(b"number ", answer.number as u64);
     line(b"usable ", answer.usable as u64);
