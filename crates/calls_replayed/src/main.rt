@@ -281,7 +281,55 @@ fn report_field(
     tell_values(field, shown);
 }
 
-// The field alone, in slices with room for grids of depth 5, full of rubbish.
+// The field alone.
+fn ask_field(
+    points: &[f32],
+    settings: Settings,
+    shown: usize,
+    field: &mut [f32],
+    s0: &mut [f32],
+    s1: &mut [f32],
+    s2: &mut [f32],
+    s3: &mut [f32],
+    s4: &mut [f32],
+    s5: &mut [f32],
+    s6: &mut [f32],
+    edges: &mut [u32],
+    distances: &mut [f32],
+) {
+    let answer = poisson::poisson_field(
+        points,
+        settings,
+        field,
+        s0,
+        s1,
+        s2,
+        s3,
+        s4,
+        s5,
+        s6,
+        edges,
+        distances,
+    );
+    let n = nodes(answer.number, settings.depth);
+    report_field(
+        answer,
+        n,
+        shown,
+        field,
+        s0,
+        s1,
+        s2,
+        s3,
+        s4,
+        s5,
+        s6,
+        edges,
+        distances,
+    );
+}
+
+// Room for grids of depth 5, full of rubbish.
 fn lend_field(points: &[f32], settings: Settings, shown: usize) {
     let mut field = [0.5f32; 32768];
     let mut s0 = [0.5f32; 32768];
@@ -293,9 +341,10 @@ fn lend_field(points: &[f32], settings: Settings, shown: usize) {
     let mut s6 = [0.5f32; 32768];
     let mut edges = [7u32; 98304];
     let mut distances = [0.5f32; 512];
-    let answer = poisson::poisson_field(
+    ask_field(
         points,
         settings,
+        shown,
         &mut field,
         &mut s0,
         &mut s1,
@@ -306,22 +355,6 @@ fn lend_field(points: &[f32], settings: Settings, shown: usize) {
         &mut s6,
         &mut edges,
         &mut distances,
-    );
-    let n = nodes(answer.number, settings.depth);
-    report_field(
-        answer,
-        n,
-        shown,
-        &field,
-        &s0,
-        &s1,
-        &s2,
-        &s3,
-        &s4,
-        &s5,
-        &s6,
-        &edges,
-        &distances,
     );
 }
 

@@ -11,6 +11,7 @@ fn line(name: &[u8], n: u64) {
     io::write_all(STDOUT_FILENO, b"\n");
 }
 
+// Every NaN prints as 7fc00000: which pattern is stored cannot be seen here.
 fn tell_pattern(x: f32) {
     io::write_all(STDOUT_FILENO, b" ");
     io::print_hex(STDOUT_FILENO, arith::pattern32(x) as u64, 8);
