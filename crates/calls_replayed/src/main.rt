@@ -1,5 +1,7 @@
-// Replays recorded calls and prints each answer as oracle/cases does, so that a reader can hold the two side by side. Each call of `stdin` has its name, its settings, how long
-// each lent slice is, and its points; `stdout` was written by the oracle. All slices are lent full of rubbish; `left` counts what is not zero past V and F and in all scratch.
+// Replays recorded calls and prints each answer in the words of oracle/cases, so that a reader can hold the two side by side. Each call of `stdin` has its name, its settings,
+// how many of the field's values are to be shown, how long each lent slice is, and its points; `stdout` was written by the oracle. Each call is made twice: for the mesh in slices
+// of those lengths, then for the field alone in slices that are long enough. All slices are lent full of rubbish; `left` and `field-left` count, slice by slice, what is not zero
+// past the results and in all scratch.
 mod tell;
 mod words;
 
@@ -17,11 +19,13 @@ use tell::left_u32;
 use tell::tell_answer;
 use tell::tell_count;
 use tell::tell_digest;
+use tell::tell_field_answer;
+use tell::tell_values;
 use words::read_floats;
 use words::read_lengths;
 use words::read_settings;
 
-// ---- one call
+// ---- the mesh of a call
 
 // Three numbers each; a count that no slice could hold is taken for none.
 fn triples(count: usize) -> usize {
@@ -231,11 +235,143 @@ fn lend(points: &[f32], settings: Settings, lengths: [usize; 11]) {
     );
 }
 
+// ---- the field of a call
+
+// N, the number of nodes, where there are values at all.
+fn nodes(number: u32, depth: u32) -> usize {
+    if number != 0 {
+        return 0;
+    }
+    if 8 < depth {
+        return 0;
+    }
+    settings::nodes(depth)
+}
+
+// The answer, the values as a digest, what is not zero past them and in all scratch, and the first values in full.
+fn report_field(
+    answer: Answer,
+    n: usize,
+    shown: usize,
+    field: &[f32],
+    s0: &[f32],
+    s1: &[f32],
+    s2: &[f32],
+    s3: &[f32],
+    s4: &[f32],
+    s5: &[f32],
+    s6: &[f32],
+    edges: &[u32],
+    distances: &[f32],
+) {
+    tell_field_answer(answer);
+    tell_digest(b"hash-field ", digest_f32(field, n));
+    io::write_all(STDOUT_FILENO, b"field-left");
+    tell_count(left_f32(field, n));
+    tell_count(left_f32(s0, 0));
+    tell_count(left_f32(s1, 0));
+    tell_count(left_f32(s2, 0));
+    tell_count(left_f32(s3, 0));
+    tell_count(left_f32(s4, 0));
+    tell_count(left_f32(s5, 0));
+    tell_count(left_f32(s6, 0));
+    tell_count(left_u32(edges, 0));
+    tell_count(left_f32(distances, 0));
+    io::write_all(STDOUT_FILENO, b"\n");
+    tell_values(field, shown);
+}
+
+// The field alone.
+fn ask_field(
+    points: &[f32],
+    settings: Settings,
+    shown: usize,
+    field: &mut [f32],
+    s0: &mut [f32],
+    s1: &mut [f32],
+    s2: &mut [f32],
+    s3: &mut [f32],
+    s4: &mut [f32],
+    s5: &mut [f32],
+    s6: &mut [f32],
+    edges: &mut [u32],
+    distances: &mut [f32],
+) {
+    let answer = poisson::poisson_field(
+        points,
+        settings,
+        field,
+        s0,
+        s1,
+        s2,
+        s3,
+        s4,
+        s5,
+        s6,
+        edges,
+        distances,
+    );
+    let n = nodes(answer.number, settings.depth);
+    report_field(
+        answer,
+        n,
+        shown,
+        field,
+        s0,
+        s1,
+        s2,
+        s3,
+        s4,
+        s5,
+        s6,
+        edges,
+        distances,
+    );
+}
+
+// Room for grids of depth 5, full of rubbish.
+fn lend_field(points: &[f32], settings: Settings, shown: usize) {
+    let mut field = [0.5f32; 32768];
+    let mut s0 = [0.5f32; 32768];
+    let mut s1 = [0.5f32; 32768];
+    let mut s2 = [0.5f32; 32768];
+    let mut s3 = [0.5f32; 32768];
+    let mut s4 = [0.5f32; 32768];
+    let mut s5 = [0.5f32; 32768];
+    let mut s6 = [0.5f32; 32768];
+    let mut edges = [7u32; 98304];
+    let mut distances = [0.5f32; 512];
+    ask_field(
+        points,
+        settings,
+        shown,
+        &mut field,
+        &mut s0,
+        &mut s1,
+        &mut s2,
+        &mut s3,
+        &mut s4,
+        &mut s5,
+        &mut s6,
+        &mut edges,
+        &mut distances,
+    );
+}
+
+// ---- the list
+
+// The mesh, then the field.
+fn both(points: &[f32], settings: Settings, shown: usize, lengths: [usize; 11]) {
+    lend(points, settings, lengths);
+    lend_field(points, settings, shown);
+}
+
 // How many numbers the points have, then the numbers.
 fn take_points(
     text: &[u8],
     at: usize,
     settings: Settings,
+    shown: usize,
     lengths: [usize; 11],
     points: &mut [f32],
 ) -> usize
@@ -245,7 +381,7 @@ fn take_points(
     let count = read_decimal(text, at);
     let n = at_most(count.value as usize, points.len());
     let next = read_floats(text, count.next, &mut points[..n]);
-    lend(&points[..n], settings, lengths);
+    both(&points[..n], settings, shown, lengths);
     next
 }
 
@@ -255,14 +391,20 @@ fn replay_call(text: &[u8], at: usize) -> usize
     ensures { λ r. ⌜ (at ≤ r) × (r ≤ length (now (text .entry))) ⌝ }
 {
     let told = read_settings(text, at);
-    let lent = read_lengths(text, told.next);
+    let shown = read_decimal(text, told.next);
+    let lent = read_lengths(text, shown.next);
     let settings = told.settings;
     let lengths = lent.lengths;
     let mut points = [0.5f32; 3072];
-    take_points(text, lent.next, settings, lengths, &mut points)
+    take_points(
+        text,
+        lent.next,
+        settings,
+        shown.value as usize,
+        lengths,
+        &mut points,
+    )
 }
-
-// ---- the list
 
 // A call's first word is its name; where there is no word, the list is at its end.
 fn replay_next(text: &[u8], at: usize) -> usize
@@ -289,7 +431,7 @@ fn replay_all(text: &[u8]) {
 }
 
 fn main() {
-    let mut text = [0u8; 524288];
+    let mut text = [0u8; 393216];
     let n = io::read_full(STDIN_FILENO, &mut text);
     replay_all(&text[..n]);
 }

@@ -11,6 +11,7 @@ fn line(name: &[u8], n: u64) {
     io::write_all(STDOUT_FILENO, b"\n");
 }
 
+// Every NaN prints as 7fc00000: which pattern is stored cannot be seen here.
 fn tell_pattern(x: f32) {
     io::write_all(STDOUT_FILENO, b" ");
     io::print_hex(STDOUT_FILENO, arith::pattern32(x) as u64, 8);
@@ -33,6 +34,34 @@ pub fn tell_digest(name: &[u8], digest: u64) {
     io::write_all(STDOUT_FILENO, name);
     io::print_hex(STDOUT_FILENO, digest, 16);
     io::write_all(STDOUT_FILENO, b"\n");
+}
+
+pub fn tell_field_answer(answer: Answer) {
+    line(b"field ", answer.number as u64);
+    line(b"field-usable ", answer.usable as u64);
+    io::write_all(STDOUT_FILENO, b"field-level");
+    tell_pattern(answer.level);
+    io::write_all(STDOUT_FILENO, b"\n");
+}
+
+// Eight a line.
+fn end_row(i: usize) {
+    if i % 8 == 7 {
+        io::write_all(STDOUT_FILENO, b"\n");
+    }
+}
+
+// The first `shown` values.
+pub fn tell_values(values: &[f32], shown: usize) {
+    let mut i = 0usize;
+    while i < values.len() {
+        if shown <= i {
+            return;
+        }
+        tell_pattern(values[i]);
+        end_row(i);
+        i += 1;
+    }
 }
 
 pub fn tell_answer(answer: Answer) {

@@ -1,6 +1,7 @@
-//! For the program `calls_replayed` of the port: the list of calls that it reads, and what it must print.
-use crate::cases::{show, Case};
-use crate::{answer, Outcome, Room};
+//! For the program `calls_replayed` of the port: the list of calls that it reads, and what it must print. Each call is made twice: for the mesh in slices of
+//! the recorded lengths, and for the field alone in slices that are long enough.
+use crate::cases::{hash_floats, show, Case};
+use crate::{answer, Outcome, PoissonConfig, Room};
 use std::error::Error;
 use std::fs;
 use std::path::Path;
@@ -24,7 +25,43 @@ fn cases(folder: &Path) -> Result<Vec<(String, Case)>, Box<dyn Error>> {
             all.push((name, case));
         }
     }
+    let base = all.first().ok_or("no case")?.1.clone();
+    all.extend(solver_calls(&base));
     Ok(all)
+}
+
+/// Calls for the solver, made of the points and the depth 3 of one case: caps, tolerances that stop at once or never, and scales at which the step's square in
+/// f32 is subnormal, vanishes or overflows, or the step itself vanishes.
+fn solver_calls(base: &Case) -> Vec<(String, Case)> {
+    let plain = PoissonConfig { depth: 3, ..PoissonConfig::default() };
+    let call = |name: String, scale: f32, max_iterations: usize, tolerance: f64| {
+        let stored: Vec<f32> = base.stored.chunks(6).flat_map(|p| scaled(p, scale)).collect();
+        let config = PoissonConfig { max_iterations, tolerance, ..plain.clone() };
+        let room = cut(&Room::ample(3, stored.len() / 6));
+        (name, Case { config, room, length: stored.len(), stored })
+    };
+    let tolerances = [0.0, -1.0, f64::NAN, f64::INFINITY, f64::NEG_INFINITY];
+    let scales = [1e-45, 1e-44, 1e-30, 1e-24, 1e-23, 1e18, 1e19, 1e30, 1e37];
+    let caps = [0, 1, 2, 1000].map(|cap| call(format!("cap-{cap}"), 1.0, cap, plain.tolerance));
+    let stops = tolerances.map(|t| call(format!("tolerance-{t}").to_lowercase(), 1.0, 1000, t));
+    let sizes = scales.map(|scale| call(format!("scale-{scale:e}"), scale, 1000, plain.tolerance));
+    let wide = [0.0, f64::NAN].map(|t| call(format!("scale-1e19-tolerance-{t}").to_lowercase(), 1e19, 1000, t));
+    caps.into_iter().chain(stops).chain(sizes).chain(wide).collect()
+}
+
+/// A point's position scaled, its normal kept.
+fn scaled(point: &[f32], scale: f32) -> Vec<f32> {
+    point.iter().enumerate().map(|(i, &v)| if i < 3 { v * scale } else { v }).collect()
+}
+
+/// How many of the field's values are printed: all 512 where the solver's end is what the call is about.
+fn shown(name: &str, case: &Case) -> usize {
+    let about = ["cap-", "tolerance", "scale-", "exponential"].iter().any(|word| name.contains(word));
+    if about && case.config.depth == 3 {
+        512
+    } else {
+        0
+    }
 }
 
 fn cut(room: &Room) -> Room {
@@ -38,19 +75,20 @@ fn cut(room: &Room) -> Room {
     }
 }
 
-/// The name; the settings; the eleven lengths; how many numbers the points have; the numbers.
+/// The name; the settings and how many values are shown; the eleven lengths; how many numbers the points have; the numbers.
 fn call(name: &str, case: &Case) -> String {
     let (c, r) = (&case.config, &case.room);
     let distance = c.trim_distance.unwrap_or(0.0).to_bits();
     let settings = format!(
-        "{} {:08X} {:08X} {} {:08X} {:X} {:016X}",
+        "{} {:08X} {:08X} {} {:08X} {:X} {:016X} {}",
         c.depth,
         c.smoothing.to_bits(),
         c.iso_offset.to_bits(),
         c.trim_distance.is_some() as u32,
         distance,
         c.max_iterations,
-        c.tolerance.to_bits()
+        c.tolerance.to_bits(),
+        shown(name, case)
     );
     let lengths = r.grids.iter().chain([&r.edges, &r.distances, &r.vertices, &r.faces]).map(usize::to_string);
     let lengths = lengths.collect::<Vec<_>>().join(" ");
@@ -70,11 +108,32 @@ fn answered(name: &str, outcome: &Outcome) -> String {
     format!("call {name}\n{shown}left{}\n", " 0".repeat(11))
 }
 
+/// The field's answer, its digest, that nothing else than zeros is left past it and in the scratch slices, and its first values.
+fn field_answered(outcome: &Outcome, shown: usize) -> String {
+    let seen = &outcome.seen;
+    let refused = if seen.field.is_empty() { outcome.number } else { 0 };
+    let rows: String =
+        seen.field[..shown.min(seen.field.len())].chunks(8).map(|row| format!(" {}\n", patterns(row))).collect();
+    let text = format!(
+        "field {refused}\nfield-usable {}\nfield-level {:08X}\nhash-field {:016X}\nfield-left{}\n{rows}",
+        seen.usable,
+        seen.level.to_bits(),
+        hash_floats(&seen.field),
+        " 0".repeat(10)
+    );
+    text.to_lowercase()
+}
+
 pub fn list(folder: &Path) -> Result<String, Box<dyn Error>> {
     Ok(cases(folder)?.iter().map(|(name, case)| call(name, case)).collect())
 }
 
 pub fn answers(folder: &Path) -> Result<String, Box<dyn Error>> {
-    let one = |(name, case): &(String, Case)| answered(name, &answer(&case.points(), &case.config, &case.room));
+    let one = |(name, case): &(String, Case)| {
+        let points = case.points();
+        let ample = Room::ample(case.config.depth, points.len() / 6);
+        let mesh = answered(name, &answer(&points, &case.config, &case.room));
+        mesh + &field_answered(&answer(&points, &case.config, &ample), shown(name, case))
+    };
     Ok(cases(folder)?.iter().map(one).collect())
 }

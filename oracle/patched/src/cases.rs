@@ -99,7 +99,7 @@ pub fn hash(bytes: impl IntoIterator<Item = u8>) -> u64 {
     bytes.into_iter().fold(0xCBF2_9CE4_8422_2325, |h, b| (h ^ b as u64).wrapping_mul(0x0100_0000_01B3))
 }
 
-fn hash_floats<'a>(values: impl IntoIterator<Item = &'a f32>) -> u64 {
+pub(crate) fn hash_floats<'a>(values: impl IntoIterator<Item = &'a f32>) -> u64 {
     hash(values.into_iter().flat_map(|v| v.to_bits().to_le_bytes()))
 }
 

@@ -20,14 +20,14 @@ slice-aggregate-read-floats c = simp length-take (omega arith)
 read-floats-requires : tie.Need-read-floats-requires
 read-floats-requires c κs = search needs
 
-slice-reshare-prefix-lend : tie.Need-slice-reshare-prefix-lend
-slice-reshare-prefix-lend c = search needs
+slice-reshare-prefix-both : tie.Need-slice-reshare-prefix-both
+slice-reshare-prefix-both c = search needs
 
-slice-aggregate-lend : tie.Need-slice-aggregate-lend
-slice-aggregate-lend c = simp length-take (omega arith)
+slice-aggregate-both : tie.Need-slice-aggregate-both
+slice-aggregate-both c = simp length-take (omega arith)
 
-lend-requires : tie.Need-lend-requires
-lend-requires c κs = search needs
+both-requires : tie.Need-both-requires
+both-requires c κs = search needs
 
 same-length : tie.Need-same-length
 same-length c = search needs
@@ -44,8 +44,8 @@ take-points-spec =
     slice-relend-prefix-read-floats
     slice-aggregate-read-floats
     read-floats-requires
-    slice-reshare-prefix-lend
-    slice-aggregate-lend
-    lend-requires
+    slice-reshare-prefix-both
+    slice-aggregate-both
+    both-requires
     same-length
     returns)
