@@ -7,7 +7,8 @@ use lib.Ieee.{Float}
 use Rattle.settings.specs.declared.Answer.{Answer}
 use Rattle.scan.specs.Reconstruction.{Results}
 use Rattle.scan.specs.FieldAlone.{FieldResults}
-use Rattle.poisson.specs.Outcome.{Done, FieldDone}
+use Rattle.alone.specs.Outcome.{FieldDone}
+use Rattle.poisson.specs.Outcome.{Done}
 
 -- all that a call can change
 pub record Left : Type 0 where
