@@ -1,11 +1,11 @@
 // The library for programs in other languages (include/hoardmagpie.h): numbers, slices as pointer and length, and two small arrays; no struct and no enum crosses.
 // Each exported function calls the one of the crate `poisson` and tells its answer; nothing else is done here, and nothing is required.
 ghost use mathlib.Core.Path.{_≡_};
-ghost use mathlib.Core.List.{[]};
 ghost use lib.ListN.{length};
 ghost use Rattle.settings.specs.Settings.{defaults};
 ghost use Rattle.scan.specs.Reconstruction.{reconstructed};
 ghost use Rattle.scan.specs.FieldAlone.{fieldResults};
+ghost use Rattle.alone.specs.Outcome.{fieldLengths};
 ghost use Rattle.poisson.specs.Outcome.{lengthsOf};
 ghost use Rattle.capi.specs.Flat.{trimmingFrom, settingsFrom, countsOf, valuesOf, Told, FieldTold, defaultWords, defaultValues, defaultTolerance};
 use settings::Answer;
@@ -199,7 +199,7 @@ pub extern "C" fn poisson_field(
     counts: &mut [u64; 8],
     values: &mut [f32; 8],
 ) -> u32
-    ensures { λ r. ⌜ FieldTold (fieldResults (now (points .entry)) (settingsFrom depth smoothing offset trimming distance iterations tolerance) (lengthsOf [] [] (now (s0 .entry)) (now (s1 .entry)) (now (s2 .entry)) (now (s3 .entry)) (now (s4 .entry)) (now (s5 .entry)) (now (s6 .entry)) (now (edges .entry)) (now (distances .entry))) (length (now (field .entry)))) r (now (counts .exit)) (now (values .exit)) (now (field .entry)) (now (field .exit)) (now (s0 .entry)) (now (s0 .exit)) (now (s1 .entry)) (now (s1 .exit)) (now (s2 .entry)) (now (s2 .exit)) (now (s3 .entry)) (now (s3 .exit)) (now (s4 .entry)) (now (s4 .exit)) (now (s5 .entry)) (now (s5 .exit)) (now (s6 .entry)) (now (s6 .exit)) (now (edges .entry)) (now (edges .exit)) (now (distances .entry)) (now (distances .exit)) ⌝ }
+    ensures { λ r. ⌜ FieldTold (fieldResults (now (points .entry)) (settingsFrom depth smoothing offset trimming distance iterations tolerance) (fieldLengths (now (s0 .entry)) (now (s1 .entry)) (now (s2 .entry)) (now (s3 .entry)) (now (s4 .entry)) (now (s5 .entry)) (now (s6 .entry)) (now (edges .entry)) (now (distances .entry))) (length (now (field .entry)))) r (now (counts .exit)) (now (values .exit)) (now (field .entry)) (now (field .exit)) (now (s0 .entry)) (now (s0 .exit)) (now (s1 .entry)) (now (s1 .exit)) (now (s2 .entry)) (now (s2 .exit)) (now (s3 .entry)) (now (s3 .exit)) (now (s4 .entry)) (now (s4 .exit)) (now (s5 .entry)) (now (s5 .exit)) (now (s6 .entry)) (now (s6 .exit)) (now (edges .entry)) (now (edges .exit)) (now (distances .entry)) (now (distances .exit)) ⌝ }
 {
     let settings = settings_from(
         depth,

@@ -2,4 +2,3 @@
 pub mod Order
 pub mod Showing
 pub mod Finishing
-pub mod FieldAlone

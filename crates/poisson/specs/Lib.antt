@@ -1,6 +1,3 @@
--- What a call leaves: the definitions, what its inner functions ask, then what is proved of the whole.
+-- What a call leaves, and what its inner functions ask.
 pub mod Outcome
 pub mod Inner
-pub mod OneOutcome
-pub mod Demand3
-pub mod ClosedMesh

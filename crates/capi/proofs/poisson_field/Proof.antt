@@ -1,13 +1,12 @@
 -- What is done is told: the answer's fields, and the slices as the call left them.
 use mathlib.Core.Path.{ap, _∙_}
-use mathlib.Core.List.{[]}
 use lib.ListN.{length}
 use denote.Ref.{now}
 use Rattle.lists.specs.Lists.{zero32, padded}
 use Rattle.settings.specs.declared.Answer.{Answer}
 use Rattle.settings.specs.declared.Settings.{Settings}
 use Rattle.scan.specs.FieldAlone.{FieldResults, fieldResults}
-use Rattle.poisson.specs.Outcome.{lengthsOf}
+use Rattle.alone.specs.Outcome.{fieldLengths}
 use Rattle.capi.specs.Flat.{countsOf, valuesOf}
 use borrow.Author.Needs.{needs}
 use Rattle.capi.proofs.poisson_field.Statement.{statement}
@@ -58,7 +57,7 @@ same-length-10 c = search needs
 returns : tie.Need-returns
 returns c =
     let x = c .before .before .before .before .before .before .before .before .before .before .before .before .before .before .before .before .before .before .before .before .before .before .before .before .before .before .before .before .before .before .before .before .before .before .before .before .before .before .before .before .before .before .before .before .before .before .before .args in
-    let same = ap (λ (st : Settings). fieldResults (now (x .points)) st (lengthsOf [] [] (now (x .s0)) (now (x .s1)) (now (x .s2)) (now (x .s3)) (now (x .s4)) (now (x .s5)) (now (x .s6)) (now (x .edges)) (now (x .distances))) (length (now (x .field)))) (c .before .before .before .before .before .before .before .before .before .before .before .before .before .before .before .before .before .before .before .before .before .before .before .before .before .before .before .before .before .before .before .before .before .before .before .settings-from .ensures) in
+    let same = ap (λ (st : Settings). fieldResults (now (x .points)) st (fieldLengths (now (x .s0)) (now (x .s1)) (now (x .s2)) (now (x .s3)) (now (x .s4)) (now (x .s5)) (now (x .s6)) (now (x .edges)) (now (x .distances))) (length (now (x .field)))) (c .before .before .before .before .before .before .before .before .before .before .before .before .before .before .before .before .before .before .before .before .before .before .before .before .before .before .before .before .before .before .before .before .before .before .before .settings-from .ensures) in
     let done = c .before .before .before .before .before .before .before .before .before .before .before .before .before .before .before .before .before .before .before .before .before .before .before .before .poisson-field .ensures in
     let answered = done .answered ∙ ap (λ (d : FieldResults). d .answer) same in
     record {

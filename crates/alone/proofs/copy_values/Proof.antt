@@ -9,8 +9,8 @@ use Rattle.lists.specs.Lists.{at}
 use Rattle.lists.specs.Tabulate.{tabulate-self}
 use Rattle.lists.specs.Fill.{Filled, filled-none, filled-more, filled-done}
 use borrow.Author.Needs.{needs}
-use Rattle.poisson.proofs.field_alone.copy_values.Statement.{statement}
-use Rattle.poisson.proofs.field_alone.copy_values.Tie as tie
+use Rattle.alone.proofs.copy_values.Statement.{statement}
+use Rattle.alone.proofs.copy_values.Tie as tie
 
 abbrev Inv-loop : tie.InvT-loop
 Inv-loop from to₀ i₀ to i = Filled (at from) to₀ to i

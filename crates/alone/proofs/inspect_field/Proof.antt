@@ -5,10 +5,10 @@ use denote.Ref.{now}
 use Rattle.settings.proofs.Verdicts.{stops, goes-on}
 use Rattle.settings.specs.Passed.{ready}
 use Rattle.scan.specs.FieldAlone.{fieldVerdict}
-use Rattle.poisson.proofs.FieldAlone.{too-short, long-enough}
+use Rattle.alone.proofs.Results.{too-short, long-enough}
 use borrow.Author.Needs.{needs}
-use Rattle.poisson.proofs.field_alone.inspect_field.Statement.{statement}
-use Rattle.poisson.proofs.field_alone.inspect_field.Tie as tie
+use Rattle.alone.proofs.inspect_field.Statement.{statement}
+use Rattle.alone.proofs.inspect_field.Tie as tie
 
 early-requires : tie.Need-early-requires
 early-requires c κs = search needs

@@ -1,21 +1,31 @@
 // The field alone, for who wants the values and not the mesh: the same checks as far as they do not speak of the mesh, the same stages as far as the level, the same ending.
-// The Rust has no such function. Nothing is required.
+// The Rust has no such function. Nothing is required. `poisson` passes it on.
 ghost use mathlib.Core.Path.{_≡_};
-ghost use mathlib.Core.List.{[]};
 ghost use Prim.Native.Nat.{_≤_};
 ghost use lib.ListN.{length};
 ghost use Rattle.lists.specs.Lists.{zero32, padded};
 ghost use Rattle.points.specs.Points.{usables};
-ghost use Rattle.scan.specs.Reconstruction.{fieldFor};
+ghost use Rattle.settings.specs.Refusals.{_then_, usableVerdict, extentVerdict};
+ghost use Rattle.scan.specs.Reconstruction.{extentFor, fieldFor};
 ghost use Rattle.scan.specs.FieldAlone.{fieldVerdict, fieldAnswer, fieldResults};
-ghost use Rattle.poisson.specs.Outcome.{lengthsOf, FieldDone};
-ghost use Rattle.poisson.specs.Inner.{FieldShown, Solvable};
-use crate::enough;
+ghost use Rattle.alone.specs.Outcome.{fieldLengths, FieldDone};
+ghost use Rattle.alone.specs.Inner.{FieldShown, Solvable};
 use points::Bounds;
 use settings::Answer;
 use settings::Lengths;
 use settings::Settings;
 use settings::Verdict;
+
+// 4 and 5: what the points themselves tell.
+pub fn enough(points: &[f32]) -> Verdict
+    ensures { λ r. ⌜ r ≡ usableVerdict (length (usables (now (points .entry)))) then extentVerdict (extentFor (usables (now (points .entry)))) ⌝ }
+{
+    let count = settings::usable_verdict(points::usable_count(points));
+    let Verdict::Pass = count else {
+        return count;
+    };
+    settings::extent_verdict(Bounds::of(points).extent())
+}
 
 // 7, 1, 2, 3, 8, 4, 5; 8 also where there is less room than a value a node.
 fn inspect_field(points: &[f32], settings: Settings, lengths: Lengths, room: usize) -> Verdict
@@ -110,7 +120,7 @@ fn attempt_field(
     edges: &[u32],
     distances: &mut [f32],
 ) -> Answer
-    ensures { λ r. ⌜ FieldShown (fieldResults (now (points .entry)) settings (lengthsOf [] [] (now (s0 .entry)) (now (s1 .entry)) (now (s2 .entry)) (now (s3 .entry)) (now (s4 .entry)) (now (s5 .entry)) (now (s6 .entry)) (now (edges .entry)) (now (distances .entry))) (length (now (field .entry)))) r (now (field .entry)) (now (field .exit)) ⌝ }
+    ensures { λ r. ⌜ FieldShown (fieldResults (now (points .entry)) settings (fieldLengths (now (s0 .entry)) (now (s1 .entry)) (now (s2 .entry)) (now (s3 .entry)) (now (s4 .entry)) (now (s5 .entry)) (now (s6 .entry)) (now (edges .entry)) (now (distances .entry))) (length (now (field .entry)))) r (now (field .entry)) (now (field .exit)) ⌝ }
 {
     let grids = [
         s0.len(),
@@ -164,7 +174,7 @@ pub fn poisson_field(
     edges: &mut [u32],
     distances: &mut [f32],
 ) -> Answer
-    ensures { λ r. ⌜ FieldDone (fieldResults (now (points .entry)) settings (lengthsOf [] [] (now (s0 .entry)) (now (s1 .entry)) (now (s2 .entry)) (now (s3 .entry)) (now (s4 .entry)) (now (s5 .entry)) (now (s6 .entry)) (now (edges .entry)) (now (distances .entry))) (length (now (field .entry)))) r (now (field .entry)) (now (field .exit)) (now (s0 .entry)) (now (s0 .exit)) (now (s1 .entry)) (now (s1 .exit)) (now (s2 .entry)) (now (s2 .exit)) (now (s3 .entry)) (now (s3 .exit)) (now (s4 .entry)) (now (s4 .exit)) (now (s5 .entry)) (now (s5 .exit)) (now (s6 .entry)) (now (s6 .exit)) (now (edges .entry)) (now (edges .exit)) (now (distances .entry)) (now (distances .exit)) ⌝ }
+    ensures { λ r. ⌜ FieldDone (fieldResults (now (points .entry)) settings (fieldLengths (now (s0 .entry)) (now (s1 .entry)) (now (s2 .entry)) (now (s3 .entry)) (now (s4 .entry)) (now (s5 .entry)) (now (s6 .entry)) (now (edges .entry)) (now (distances .entry))) (length (now (field .entry)))) r (now (field .entry)) (now (field .exit)) (now (s0 .entry)) (now (s0 .exit)) (now (s1 .entry)) (now (s1 .exit)) (now (s2 .entry)) (now (s2 .exit)) (now (s3 .entry)) (now (s3 .exit)) (now (s4 .entry)) (now (s4 .exit)) (now (s5 .entry)) (now (s5 .exit)) (now (s6 .entry)) (now (s6 .exit)) (now (edges .entry)) (now (edges .exit)) (now (distances .entry)) (now (distances .exit)) ⌝ }
 {
     let answer = attempt_field(
         points,

@@ -9,7 +9,7 @@ use lib.ListN.{length, getD}
 use lib.Ieee.{Float}
 use Rattle.lists.specs.Lists.{at}
 use Rattle.closed.specs.Lists.{All, sum3}
-use Rattle.closed.specs.Faces.{Face, Balanced, Apart, faces}
+use Rattle.closed.specs.Faces.{Balanced, Apart, faces}
 use Rattle.closed.specs.Numbering.{used}
 use Rattle.closed.specs.Rows.{triangles}
 use Rattle.closed.specs.Grid.{node, cellCase, gridFaces, Crossed, crossedCount}

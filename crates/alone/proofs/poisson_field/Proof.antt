@@ -2,8 +2,8 @@
 use mathlib.Core.Path.{ap, _∙_}
 use Rattle.lists.specs.Lists.{zeros32}
 use borrow.Author.Needs.{needs}
-use Rattle.poisson.proofs.field_alone.poisson_field.Statement.{statement}
-use Rattle.poisson.proofs.field_alone.poisson_field.Tie as tie
+use Rattle.alone.proofs.poisson_field.Statement.{statement}
+use Rattle.alone.proofs.poisson_field.Tie as tie
 
 attempt-field-requires : tie.Need-attempt-field-requires
 attempt-field-requires c κs = search needs

@@ -8,8 +8,8 @@ use denote.Ref.{now}
 use Rattle.lists.specs.Lists.{zero32, zeros32, padded}
 use Rattle.scan.specs.FieldAlone.{fieldAnswer}
 use borrow.Author.Needs.{needs}
-use Rattle.poisson.proofs.field_alone.solve_field.Statement.{statement}
-use Rattle.poisson.proofs.field_alone.solve_field.Tie as tie
+use Rattle.alone.proofs.solve_field.Statement.{statement}
+use Rattle.alone.proofs.solve_field.Tie as tie
 
 of-requires : tie.Need-of-requires
 of-requires c κs = search needs

@@ -4,8 +4,8 @@ use Rattle.settings.proofs.Verdicts.{stops, goes-on}
 use Rattle.points.specs.Box.{extentOf}
 use Rattle.settings.specs.Refusals.{usableVerdict, extentVerdict}
 use borrow.Author.Needs.{needs}
-use Rattle.poisson.proofs.enough.Statement.{statement}
-use Rattle.poisson.proofs.enough.Tie as tie
+use Rattle.alone.proofs.enough.Statement.{statement}
+use Rattle.alone.proofs.enough.Tie as tie
 
 usable-count-requires : tie.Need-usable-count-requires
 usable-count-requires c κs = search needs

@@ -3,10 +3,10 @@ use mathlib.Core.Path.{sym, _∙_}
 use lib.ListN.{length}
 use lib.Seq.{length-take-le}
 use denote.Ref.{now}
-use Rattle.poisson.proofs.FieldAlone.{front-padded}
+use Rattle.alone.proofs.Results.{front-padded}
 use borrow.Author.Needs.{needs}
-use Rattle.poisson.proofs.field_alone.hand_over.Statement.{statement}
-use Rattle.poisson.proofs.field_alone.hand_over.Tie as tie
+use Rattle.alone.proofs.hand_over.Statement.{statement}
+use Rattle.alone.proofs.hand_over.Tie as tie
 
 slice-relend-prefix-copy-values : tie.Need-slice-relend-prefix-copy-values
 slice-relend-prefix-copy-values c = search needs

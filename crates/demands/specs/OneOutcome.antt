@@ -5,10 +5,10 @@ use mathlib.Core.List.{List}
 use Prim.Native.Nat.{ℕ}
 use lib.Ieee.{Float}
 use Rattle.settings.specs.declared.Answer.{Answer}
-use Rattle.ending.specs.Ending.{Cleared}
 use Rattle.scan.specs.Reconstruction.{Results}
 use Rattle.scan.specs.FieldAlone.{FieldResults}
-use Rattle.poisson.specs.Outcome.{Done, FieldDone}
+use Rattle.alone.specs.Outcome.{FieldDone}
+use Rattle.poisson.specs.Outcome.{Done}
 
 -- all that a call can change
 pub record Left : Type 0 where

@@ -22,7 +22,7 @@ use Rattle.settings.specs.Refusals.{_when_, _then_, earlyVerdict, usableVerdict
 use Rattle.settings.specs.Passed.{both-pass, unless, Ready, ready}
 use Rattle.scan.specs.Reconstruction.{extentFor, fieldFor}
 use Rattle.scan.specs.FieldAlone.{valuesVerdict, fieldVerdict, fieldAnswer, fieldUnder, fieldResults}
-use Rattle.poisson.specs.Inner.{FieldShown}
+use Rattle.alone.specs.Inner.{FieldShown}
 
 -- ---- the check of the values' slice in the row of checks
 

@@ -2,8 +2,8 @@
 -- orientation keeps them, and the outer nodes are all on one side by the solver's law of the boundary. Assumes nothing.
 use mathlib.Core.Path.{_≡_, refl, sym, ap, _∙_, subst}
 use mathlib.Core.Bool.{Bool, true, false, cond}
-use mathlib.Core.List.{List, [], _∷_}
-use Prim.Native.Nat.{ℕ, _-_, _*_, _^_, _≤_, _<_}
+use mathlib.Core.List.{List}
+use Prim.Native.Nat.{ℕ, _-_, _≤_, _<_}
 use native.Mathlib.Nat.{pow-le-pow-right}
 use native.Mathlib.Omega.{arith}
 use borrow.Author.Tests.{eq-eqb}
@@ -11,17 +11,17 @@ use lib.Dec.{lit<}
 use lib.ListN.{length, getD}
 use lib.Ieee.{Float, lt}
 use Rattle.lists.specs.Lists.{at}
-use Rattle.closed.specs.Lists.{All, sum3}
-use Rattle.closed.specs.Faces.{Face, Balanced, Apart, corners, faces}
+use Rattle.closed.specs.Lists.{All}
+use Rattle.closed.specs.Faces.{Balanced, Apart, corners, faces}
 use Rattle.closed.specs.Numbering.{used, edgeOf}
-use Rattle.closed.specs.Turning.{faces-corners, length-corners}
+use Rattle.closed.specs.Turning.{faces-corners}
 use Rattle.closed.specs.Grid.{node, gridFaces, Outer}
-use Rattle.grid.specs.Grid.{Sides, Counts, gridOf, latticeOf}
+use Rattle.grid.specs.Grid.{Counts, gridOf, latticeOf}
 use Rattle.grid.specs.Rows.{cube-counts}
 use Rattle.levels.specs.BoundaryAlike.{boundary-alike, outer}
 use Rattle.extract.specs.Extraction.{isBelow, belowAt, extractedFaces, extractedVertices, vertexEdges, edgeFaces}
 use Rattle.extract.specs.Claims.{one-to-one, places, three-different, faces-counted, closed}
-use Rattle.surface.specs.Surface.{vertexCount, Meshed, orientedFaces}
+use Rattle.surface.specs.Surface.{vertexCount, orientedFaces}
 use Rattle.surface.specs.Orienting.{oriented-balanced, oriented-apart, oriented-length, oriented-meshed}
 use Rattle.trim.specs.Trim.{trimmedVertices, trimmedFaces}
 use Rattle.points.specs.declared.point.Point.{Point}
@@ -37,8 +37,8 @@ use Rattle.settings.specs.Answers.{numberOf, accepts, refused, answerUnder}
 use Rattle.settings.specs.Refusals.{earlyVerdict}
 use Rattle.settings.specs.Passed.{accepted, both-pass, Ready, ready}
 use Rattle.scan.specs.Reconstruction.{Results, problemFor, gridFor, latticeFor, fieldFor, levelFor, wholeVertices, wholeFaces, keptVertices, keptFaces, acceptedAnswer, resultsUnder, verdictOf, measured, reconstructed}
-use Rattle.scan.specs.MeshRoom.{count-vertices, length-faces, extracted-meshed}
-use Rattle.poisson.specs.Demand3.{sideNodes, belowIn, ClosedMesh}
+use Rattle.scan.specs.MeshRoom.{count-vertices, extracted-meshed}
+use Rattle.demands.specs.Demand3.{sideNodes, ClosedMesh}
 
 module _ (ps : List Point) (st : Settings) (off : st .trimming ≡ Off) (deep : 1 ≤ st .depth) (shallow : st .depth ≤ 8) where
   -- ---- the mesh of the usable points, before it is answered
@@ -104,7 +104,7 @@ module _ (ps : List Point) (st : Settings) (off : st .trimming ≡ Off) (deep : 
 
 -- ---- what an accepted call answers
 
-abbrev made : (ps : List Point) → Settings → Results
+abbrev pub made : (ps : List Point) → Settings → Results
 made ps st = record { answer = acceptedAnswer ps st; vertices = keptVertices ps st; faces = corners (keptFaces ps st) }
 
 closed-made : (xs : List Float) (st : Settings) → st .trimming ≡ Off → 1 ≤ st .depth → st .depth ≤ 8 → ClosedMesh xs st (made (usables xs) st)
@@ -142,7 +142,7 @@ module _ (xs : List Float) (st : Settings) (lent : Lengths) (zero-number : recon
   unfolding reconstructed measured
   passes = accepted (verdictOf xs st lent) (accepting (verdictOf xs st lent) (acceptedAnswer (usables xs) st) zero-number)
 
-  is-made : reconstructed xs st lent ≡ made (usables xs) st
+  pub is-made : reconstructed xs st lent ≡ made (usables xs) st
   unfolding reconstructed measured
   is-made = ap (λ (v : Verdict). resultsUnder v (usables xs) st) passes
 

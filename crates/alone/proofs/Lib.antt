@@ -1,0 +1,2 @@
+-- What the proofs of the call's functions share.
+pub mod Results
