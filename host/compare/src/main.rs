@@ -5,10 +5,10 @@
 //! compare cases FOLDER           recorded cases
 //! compare ring COUNT             a scan of the ring with a third missing, as PLY on standard output
 //! ```
-use compare::calls::{family, Call};
+use calls::random::Random;
+use calls::shapes;
+use calls::{family, Call};
 use compare::lending::compare_default;
-use compare::random::Random;
-use compare::shapes;
 use compare::tally::{at_depth, recorded, Tally};
 use oracle::PoissonConfig;
 use std::io::Write;

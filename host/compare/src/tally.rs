@@ -1,8 +1,8 @@
 //! Runs calls and counts what was answered.
-use crate::calls::{family, Call};
 use crate::laws::closed;
 use crate::lending::compare;
-use crate::random::Random;
+use calls::random::Random;
+use calls::{family, Call};
 use oracle::cases::Case;
 use oracle::{Outcome, PoissonConfig};
 use std::path::Path;

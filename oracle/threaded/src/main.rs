@@ -2,10 +2,10 @@
 //!
 //! The same scans as host/compare's `bench`. Processor time is that of all threads together; the best of the repeats counts.
 #[allow(dead_code)]
-#[path = "../../../host/compare/src/random.rs"]
+#[path = "../../calls/src/random.rs"]
 mod random;
 #[allow(dead_code)]
-#[path = "../../../host/compare/src/shapes.rs"]
+#[path = "../../calls/src/shapes.rs"]
 mod shapes;
 
 use random::Random;

@@ -3,8 +3,8 @@
 //! The scan is a ring of radius 100 and tube 35 with a third missing, settings are the defaults but for the depth. Both run on one
 //! thread. Processor time of the thread is the figure to trust on a machine that does other work; the best of the repeats counts.
 //! "Rust" is the published text, whose nearest neighbours come from a tree; "oracle" is the same with document 01's substitutions.
-use compare::random::Random;
-use compare::shapes;
+use calls::random::Random;
+use calls::shapes;
 use hoardmagpie::{field, reconstruct, Point, Settings};
 use oracle::{thread_time, PoissonConfig, Room};
 use std::time::{Duration, Instant};
