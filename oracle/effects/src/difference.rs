@@ -10,7 +10,7 @@ pub enum Difference {
     Number,
     /// Both accept, and the faces differ.
     Faces,
-    /// The faces are the same, and a vertex lies elsewhere: how far at most, as a part of the box's longest side.
+    /// The faces are the same, and a vertex lies elsewhere: how far at most along an axis.
     Places(f64),
     /// The same answer, from another field or level.
     Field,
@@ -22,8 +22,7 @@ fn same<'a>(a: impl IntoIterator<Item = &'a f32>, b: impl IntoIterator<Item = &'
 
 /// The farthest that a coordinate is from where it was.
 fn farthest(a: &Outcome, b: &Outcome) -> f64 {
-    let side = (0..3).map(|i| f64::from(a.high[i]) - f64::from(a.low[i])).fold(0.0, f64::max);
-    let moved = |(p, q): (&f32, &f32)| (f64::from(*p) - f64::from(*q)).abs() / side;
+    let moved = |(p, q): (&f32, &f32)| (f64::from(*p) - f64::from(*q)).abs();
     a.vertices.as_flattened().iter().zip(b.vertices.as_flattened()).map(moved).fold(0.0, f64::max)
 }
 
@@ -51,12 +50,12 @@ pub struct Effect {
     pub faces: u64,
     pub places: u64,
     pub field: u64,
-    /// Of those whose faces stayed, the farthest that a vertex moved.
+    /// Of those whose faces stayed, the farthest that a vertex moved, as a part of the points' largest extent.
     pub farthest: f64,
 }
 
 impl Effect {
-    pub fn add(&mut self, difference: Difference) {
+    pub fn add(&mut self, difference: Difference, extent: f64) {
         self.calls += 1;
         match difference {
             Difference::Nothing => {}
@@ -64,7 +63,7 @@ impl Effect {
             Difference::Faces => self.faces += 1,
             Difference::Places(far) => {
                 self.places += 1;
-                self.farthest = self.farthest.max(far);
+                self.farthest = self.farthest.max(far / extent);
             }
             Difference::Field => self.field += 1,
         }

@@ -54,6 +54,7 @@ versions! {
     exponential: "exponential.rs";
     in_parts: "in_parts.rs";
     search: "search.rs";
+    finite_search: "finite_search.rs";
     at_most: "at_most.rs";
 }
 

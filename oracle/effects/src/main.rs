@@ -1,12 +1,29 @@
 //! effects [SHARE]        the effect of each of document 01's substitutions, alone, as tables; SHARE, of 1, makes fewer calls
 use calls::random::Random;
 use calls::{aimed, damaged, extreme, sound, trims, Call};
-use effects::{all, at_most, blur_weights, exponential, in_parts, published, search, Difference, Effect};
+use effects::{all, at_most, blur_weights, exponential, finite_search, in_parts, published, search};
+use effects::{Difference, Effect};
 use oracle::cases::Case;
-use oracle::PoissonConfig;
+use oracle::{Outcome, PoissonConfig};
 use std::{env, fs};
 
-const NAMES: [&str; 5] = ["exponential", "dot order", "brute search", "at most in trim", "all of them"];
+const NAMES: [&str; 6] = [
+    "exponential",
+    "dot order",
+    "brute search",
+    "the same, infinite distances left out",
+    "at most in trim",
+    "all of them",
+];
+
+/// The largest extent of the points with finite positions.
+fn extent(points: &[f32]) -> f64 {
+    let along = |axis: usize| {
+        let values = || points.iter().skip(axis).step_by(6).filter(|c| c.is_finite()).map(|&c| f64::from(c));
+        values().fold(f64::MIN, f64::max) - values().fold(f64::MAX, f64::min)
+    };
+    (0..3).map(along).fold(0.0, f64::max)
+}
 
 /// Effects on one list of calls.
 #[derive(Default)]
@@ -18,12 +35,18 @@ struct Table {
 
 impl Table {
     fn add(&mut self, points: &[f32], config: &PoissonConfig) -> [Difference; NAMES.len()] {
-        let [base, parts, e, s, t, oracle] =
-            [published, in_parts, exponential, search, at_most, all].map(|version| version(points, config));
-        let differences = [(&base, &e), (&parts, &base), (&base, &s), (&base, &t), (&parts, &oracle)]
-            .map(|(without, with)| Difference::of(without, with));
+        let run = |version: fn(&[f32], &PoissonConfig) -> Outcome| version(points, config);
+        let (base, parts) = (run(published), run(in_parts));
+        let differences = [
+            Difference::of(&base, &run(exponential)),
+            Difference::of(&parts, &base),
+            Difference::of(&base, &run(search)),
+            Difference::of(&base, &run(finite_search)),
+            Difference::of(&base, &run(at_most)),
+            Difference::of(&parts, &run(all)),
+        ];
         for (effect, difference) in self.effects.iter_mut().zip(differences) {
-            effect.add(difference);
+            effect.add(difference, extent(points));
         }
         let stray = base.seen.strays > 0;
         self.strays[0] += u64::from(stray);
@@ -33,9 +56,7 @@ impl Table {
 
     fn print(&self, name: &str) {
         println!("\n{name}: {} calls\n", self.effects[0].calls);
-        println!(
-            "| substitution | differ | number | faces | places only | field or level only |\n|---|---|---|---|---|---|"
-        );
+        println!("| | differ | number | faces | places only | field or level only |\n|---|---|---|---|---|---|");
         for (name, effect) in NAMES.iter().zip(&self.effects) {
             println!("| {name} | {effect} |");
         }
@@ -115,7 +136,7 @@ fn recorded() -> Result<(), Box<dyn std::error::Error>> {
         if ["number 7\n", "number 8\n", "number 9\n", "number 10\n"].iter().any(|n| answered.starts_with(n)) {
             continue;
         }
-        for (name, difference) in NAMES.iter().zip(table.add(&case.points(), &case.config)).take(4) {
+        for (name, difference) in NAMES.iter().zip(table.add(&case.points(), &case.config)).take(5) {
             if difference != Difference::Nothing {
                 names.push(format!("{name}: {} ({difference:?})", path.file_stem().unwrap_or_default().display()));
             }
