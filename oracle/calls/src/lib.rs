@@ -56,13 +56,15 @@ pub fn family(r: &mut Random, depth: u32) -> Vec<Call> {
     calls
 }
 
-/// The most steps that are affordable at a depth, now and then all that the default allows.
+/// The most steps: few at the larger depths, where a step takes long, and now and then as many as a scan needs.
 fn steps(r: &mut Random, depth: u32) -> usize {
     match depth {
         0..=3 => r.pick(&[0, 1, 2, 5, 40, 1000, 1000]),
         4 => r.pick(&[0, 1, 3, 20, 40, 200]),
         5 => r.pick(&[1, 4, 15, 40, 100]),
+        6 if r.once_in(10) => 1000,
         6 => r.pick(&[1, 4, 12]),
+        7 if r.once_in(40) => 400,
         _ => r.pick(&[1, 2, 3]),
     }
 }
