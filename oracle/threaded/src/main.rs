@@ -1,7 +1,7 @@
 //! threaded [REPEATS]        times of the published Rust with the real rayon, on one thread and on all, as a table
 //! threaded calls COUNT      generated calls on all threads, beside the oracle
 //!
-//! The times are of the same scans as in host/compare's `bench`. Processor time is that of all threads together; the best of the
+//! The times are of the same scans as in host's `bench`. Processor time is that of all threads together; the best of the
 //! repeats counts.
 use calls::random::Random;
 use calls::{aimed, shapes, sound, Call};
