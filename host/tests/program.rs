@@ -83,6 +83,26 @@ fn closes_a_scan_and_prints_the_job_card() {
 }
 
 #[test]
+fn closes_the_example() {
+    let program = Program::new("example");
+    let scan = concat!(env!("CARGO_MANIFEST_DIR"), "/../examples/ring.ply");
+    let output = program.run(&["close", scan, "-o", "ring.ply", "--depth", "5"]);
+    let card = String::from_utf8(output.stdout).unwrap();
+    assert!(output.status.success(), "{card}");
+    assert_eq!(card_value(&card, "points"), "4000 given, 4000 used");
+    assert_eq!(card_value(&card, "closed"), "yes");
+}
+
+#[test]
+fn a_trimmed_mesh_is_told_open() {
+    let program = Program::new("trimmed");
+    fs::write(program.path("ball.txt"), ball()).unwrap();
+    let output = program.run(&["close", "ball.txt", "-o", "ball.ply", "--depth", "4", "--trim", "2"]);
+    let closed = card_value(&String::from_utf8(output.stdout).unwrap(), "closed");
+    assert!(closed.starts_with("no, ") && closed.ends_with(" open edges"), "{closed}");
+}
+
+#[test]
 fn every_setting_reaches_the_library() {
     let program = Program::new("settings");
     fs::write(program.path("ball.txt"), ball()).unwrap();

@@ -1,6 +1,6 @@
 //! ```text
 //! compare short                  some thousand calls, a minute or two
-//! compare full [THREADS]         at least 100,000 calls at depth 3 to 5, 500 at 6, 500 at 7, 10 at 8
+//! compare full [THREADS]         at least 100,000 calls at depth 3 to 5, 500 at 6 and 7, 10 at 8
 //! compare fuzz SECONDS [SEED]    other calls for as long as this
 //! compare cases FOLDER           recorded cases
 //! compare ring COUNT             a scan of the ring with a third missing, as PLY on standard output
@@ -19,7 +19,7 @@ use std::time::{Duration, Instant};
 
 /// Calls for each depth.
 const SHORT: [(u32, u64); 5] = [(3, 6000), (4, 600), (5, 100), (6, 5), (7, 1)];
-const FULL: [(u32, u64); 6] = [(3, 88_000), (4, 10_000), (5, 2_000), (6, 500), (7, 500), (8, 10)];
+const FULL: [(u32, u64); 6] = [(3, 88_000), (4, 10_000), (5, 2_000), (6, 430), (7, 70), (8, 10)];
 
 /// A part of a list that one thread does at a time.
 const PART: u64 = 500;
