@@ -14,6 +14,7 @@ use Rattle.settings.specs.declared.Answer.{Answer}
 use Rattle.settings.specs.Settings.{defaults}
 use Rattle.ending.specs.Ending.{Cleared}
 use Rattle.scan.specs.Reconstruction.{Results}
+use Rattle.scan.specs.FieldAlone.{FieldResults}
 
 -- ---- in
 
@@ -49,6 +50,14 @@ pub record Told (results : Results) (number : ℕ) (counts : List ℕ) (values :
   pub values-are : values ≡ valuesOf (results .answer)
   pub vertices : vs′ ≡ padded zero32 (length vs) (results .vertices)
   pub faces : fs′ ≡ padded 0 (length fs) (results .faces)
+  pub scratch : Cleared s0 s0′ s1 s1′ s2 s2′ s3 s3′ s4 s4′ s5 s5′ s6 s6′ edges edges′ distances distances′
+
+-- the same of `FieldDone`
+pub record FieldTold (results : FieldResults) (number : ℕ) (counts : List ℕ) (values : List Float) (field field′ s0 s0′ s1 s1′ s2 s2′ s3 s3′ s4 s4′ s5 s5′ s6 s6′ : List Float) (edges edges′ : List ℕ) (distances distances′ : List Float) : Type 0 where
+  pub number-is : number ≡ results .answer .number
+  pub counts-are : counts ≡ countsOf (results .answer)
+  pub values-are : values ≡ valuesOf (results .answer)
+  pub field-is : field′ ≡ padded zero32 (length field) (results .values)
   pub scratch : Cleared s0 s0′ s1 s1′ s2 s2′ s3 s3′ s4 s4′ s5 s5′ s6 s6′ edges edges′ distances distances′
 
 -- ---- the defaults: depth, trimming flag, iterations; smoothing, offset, distance; tolerance

@@ -1,10 +1,13 @@
 // The library for programs in other languages (include/hoardmagpie.h): numbers, slices as pointer and length, and two small arrays; no struct and no enum crosses.
 // Each exported function calls the one of the crate `poisson` and tells its answer; nothing else is done here, and nothing is required.
 ghost use mathlib.Core.Path.{_≡_};
+ghost use mathlib.Core.List.{[]};
+ghost use lib.ListN.{length};
 ghost use Rattle.settings.specs.Settings.{defaults};
 ghost use Rattle.scan.specs.Reconstruction.{reconstructed};
+ghost use Rattle.scan.specs.FieldAlone.{fieldResults};
 ghost use Rattle.poisson.specs.Outcome.{lengthsOf};
-ghost use Rattle.capi.specs.Flat.{trimmingFrom, settingsFrom, countsOf, valuesOf, Told, defaultWords, defaultValues, defaultTolerance};
+ghost use Rattle.capi.specs.Flat.{trimmingFrom, settingsFrom, countsOf, valuesOf, Told, FieldTold, defaultWords, defaultValues, defaultTolerance};
 use settings::Answer;
 use settings::Settings;
 use settings::Trimming;
@@ -170,6 +173,60 @@ pub extern "C" fn poisson_reconstruct_default(
     put_counts(answer, counts);
     put_values(answer, values);
     answer.number
+}
+
+// The field and the level alone: of `counts` only the first, of `values` only the first can differ from zero.
+#[no_mangle]
+pub extern "C" fn poisson_field(
+    points: &[f32],
+    depth: u32,
+    smoothing: f32,
+    offset: f32,
+    trimming: u32,
+    distance: f32,
+    iterations: usize,
+    tolerance: f64,
+    field: &mut [f32],
+    s0: &mut [f32],
+    s1: &mut [f32],
+    s2: &mut [f32],
+    s3: &mut [f32],
+    s4: &mut [f32],
+    s5: &mut [f32],
+    s6: &mut [f32],
+    edges: &mut [u32],
+    distances: &mut [f32],
+    counts: &mut [u64; 8],
+    values: &mut [f32; 8],
+) -> u32
+    ensures { λ r. ⌜ FieldTold (fieldResults (now (points .entry)) (settingsFrom depth smoothing offset trimming distance iterations tolerance) (lengthsOf [] [] (now (s0 .entry)) (now (s1 .entry)) (now (s2 .entry)) (now (s3 .entry)) (now (s4 .entry)) (now (s5 .entry)) (now (s6 .entry)) (now (edges .entry)) (now (distances .entry))) (length (now (field .entry)))) r (now (counts .exit)) (now (values .exit)) (now (field .entry)) (now (field .exit)) (now (s0 .entry)) (now (s0 .exit)) (now (s1 .entry)) (now (s1 .exit)) (now (s2 .entry)) (now (s2 .exit)) (now (s3 .entry)) (now (s3 .exit)) (now (s4 .entry)) (now (s4 .exit)) (now (s5 .entry)) (now (s5 .exit)) (now (s6 .entry)) (now (s6 .exit)) (now (edges .entry)) (now (edges .exit)) (now (distances .entry)) (now (distances .exit)) ⌝ }
+{
+    let settings = settings_from(
+        depth,
+        smoothing,
+        offset,
+        trimming,
+        distance,
+        iterations,
+        tolerance,
+    );
+    let solved = poisson::poisson_field(
+        points,
+        settings,
+        field,
+        s0,
+        s1,
+        s2,
+        s3,
+        s4,
+        s5,
+        s6,
+        edges,
+        distances,
+    );
+    put_counts(solved, counts);
+    put_values(solved, values);
+    solved.number
 }
 
 // The defaults, so that a host keeps no second list: depth, trimming flag, iterations; smoothing, offset, distance; tolerance.

@@ -4,6 +4,7 @@ use mathlib.Core.List.{List, [], _∷_}
 use Prim.Native.Nat.{ℕ, _*_, _^_, _≤_}
 use lib.ListN.{length, take}
 use lib.Ieee.{Float}
+use Rattle.lists.specs.Lists.{zero32, padded}
 use Rattle.grid.specs.declared.Grid.{Grid}
 use Rattle.grid.specs.Grid.{Sides}
 use Rattle.points.specs.declared.point.Point.{Point}
@@ -15,6 +16,7 @@ use Rattle.extract.specs.Passes.{edgeTable}
 use Rattle.scan.specs.declared.Found.{Found}
 use Rattle.scan.specs.Reconstruction.{Results, gridFor, latticeFor, fieldFor, levelFor, vertexTotal, faceTotal}
 use Rattle.scan.specs.Stages.{Lent}
+use Rattle.scan.specs.FieldAlone.{FieldResults}
 
 -- the results stand at the front of vs and fs, as long as r says
 pub record Shown (d : Results) (r : Answer) (vs : List Float) (fs : List ℕ) : Type 0 where
@@ -33,7 +35,8 @@ pub record Workable (xs : List Float) (st : Settings) (lent : Lengths) (vs : Lis
   pub few : given xs ≤ 1048576
   pub v-lent : lent .vertices ≡ length vs
   pub f-lent : lent .faces ≡ length fs
-  pub scratch : Lent (8 ^ st .depth) (given xs) s0 s1 s2 s3 s4 s5 s6 edges distances
+  pub scratch : Lent (8 ^ st .depth) (given xs) s0 s1 s2 s3 s4 s5 s6 distances
+  pub three : length edges ≡ 3 * 8 ^ st .depth
 
 -- what the finish asks: all that was prepared
 pub record Finishable (ps : List Point) (st : Settings) (lent : Lengths) (g : Grid) (found : Found) (vs : List Float) (fs : List ℕ) (s0 a b c : List Float) (edges : List ℕ) : Type 0 where
@@ -51,3 +54,18 @@ pub record Finishable (ps : List Point) (st : Settings) (lent : Lengths) (g : Gr
   pub size2 : length b ≡ 8 ^ st .depth
   pub size3 : length c ≡ 8 ^ st .depth
   pub numbers : edges ≡ edgeTable (fieldFor ps st) (latticeFor ps st) (levelFor ps st)
+
+-- ---- the field alone
+
+-- the values stand in their slice, zeros past them
+pub record FieldShown (d : FieldResults) (r : Answer) (field field′ : List Float) : Type 0 where
+  pub answered : r ≡ d .answer
+  pub values : field′ ≡ padded zero32 (length field) (d .values)
+
+-- what its stages ask
+pub record Solvable (xs : List Float) (st : Settings) (field s0 s1 s2 s3 s4 s5 s6 distances : List Float) : Type 0 where
+  pub deep : 3 ≤ st .depth
+  pub shallow : st .depth ≤ 8
+  pub few : given xs ≤ 1048576
+  pub room : 8 ^ st .depth ≤ length field
+  pub scratch : Lent (8 ^ st .depth) (given xs) s0 s1 s2 s3 s4 s5 s6 distances

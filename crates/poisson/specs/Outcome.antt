@@ -1,6 +1,6 @@
 -- What a call leaves, in one record: the answer, the mesh at the front of the result slices with zeros past it, and zeros in all scratch; whole slices, also
--- where they are longer than stated (document 01, "What crosses the counter"). What the results are is `reconstructed` of the crate `scan`. Definitions only;
--- assumes nothing.
+-- where they are longer than stated (document 01, "What crosses the counter"). What the results are is `reconstructed` of the crate `scan`, and for the field
+-- alone `fieldResults`. Definitions only; assumes nothing.
 use mathlib.Core.Path.{_≡_}
 use mathlib.Core.List.{List, [], _∷_}
 use Prim.Native.Nat.{ℕ}
@@ -11,6 +11,7 @@ use Rattle.settings.specs.declared.Answer.{Answer}
 use Rattle.settings.specs.declared.Lengths.{Lengths}
 use Rattle.ending.specs.Ending.{Cleared}
 use Rattle.scan.specs.Reconstruction.{Results}
+use Rattle.scan.specs.FieldAlone.{FieldResults}
 
 -- how long the lent slices are
 abbrev pub lengthsOf : (vs : List Float) (fs : List ℕ) (s0 s1 s2 s3 s4 s5 s6 : List Float) (edges : List ℕ) (distances : List Float) → Lengths
@@ -28,4 +29,10 @@ pub record Done (results : Results) (r : Answer) (vs vs′ : List Float) (fs fs�
   pub answered : r ≡ results .answer
   pub vertices : vs′ ≡ padded zero32 (length vs) (results .vertices)
   pub faces : fs′ ≡ padded 0 (length fs) (results .faces)
+  pub scratch : Cleared s0 s0′ s1 s1′ s2 s2′ s3 s3′ s4 s4′ s5 s5′ s6 s6′ edges edges′ distances distances′
+
+-- the same of the call for the field alone: the values at the front of their slice with zeros past them
+pub record FieldDone (results : FieldResults) (r : Answer) (field field′ s0 s0′ s1 s1′ s2 s2′ s3 s3′ s4 s4′ s5 s5′ s6 s6′ : List Float) (edges edges′ : List ℕ) (distances distances′ : List Float) : Type 0 where
+  pub answered : r ≡ results .answer
+  pub values : field′ ≡ padded zero32 (length field) (results .values)
   pub scratch : Cleared s0 s0′ s1 s1′ s2 s2′ s3 s3′ s4 s4′ s5 s5′ s6 s6′ edges edges′ distances distances′

@@ -1,5 +1,9 @@
 // Document 01, the whole call, beside `poisson_reconstruction` and `poisson_reconstruction_default` of the Rust's poisson.rs: the checks in their order, the stages, and one ending
 // that clears what is unused. "For every bit pattern of points and settings the call ends and stays inside the slices it was lent. The caller checks nothing first": nothing is required.
+// `field_alone` has the call that stops at the level.
+mod field_alone;
+
+pub use field_alone::poisson_field;
 ghost use mathlib.Core.Path.{_≡_};
 ghost use mathlib.Core.List.{[], _∷_};
 ghost use Prim.Native.Nat.{_*_, _^_, _≤_, _<_};
@@ -18,6 +22,17 @@ use settings::Lengths;
 use settings::Settings;
 use settings::Verdict;
 
+// 4 and 5: what the points themselves tell.
+fn enough(points: &[f32]) -> Verdict
+    ensures { λ r. ⌜ r ≡ usableVerdict (length (usables (now (points .entry)))) then extentVerdict (extentFor (usables (now (points .entry)))) ⌝ }
+{
+    let count = settings::usable_verdict(points::usable_count(points));
+    let Verdict::Pass = count else {
+        return count;
+    };
+    settings::extent_verdict(Bounds::of(points).extent())
+}
+
 // 7, 1, 2, 3, 8, 4, 5: the checks before any slice is touched.
 fn inspect(points: &[f32], settings: Settings, lengths: Lengths) -> Verdict
     ensures { λ r. ⌜ r ≡ earlyVerdict (now (points .entry)) settings lengths then usableVerdict (length (usables (now (points .entry)))) then extentVerdict (extentFor (usables (now (points .entry)))) ⌝ }
@@ -26,11 +41,7 @@ fn inspect(points: &[f32], settings: Settings, lengths: Lengths) -> Verdict
     let Verdict::Pass = early else {
         return early;
     };
-    let enough = settings::usable_verdict(points::usable_count(points));
-    let Verdict::Pass = enough else {
-        return enough;
-    };
-    settings::extent_verdict(Bounds::of(points).extent())
+    enough(points)
 }
 
 // 9 and 10, then 6 before trimming.

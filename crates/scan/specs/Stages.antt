@@ -28,7 +28,7 @@ pub record GridOver (b : Bounds) (st : Settings) (g : Grid) : Type 0 where
   pub sides : Sides (g .nodes)
 
 -- scratch for n nodes and so many given points
-pub record Lent (n points : ℕ) (s0 s1 s2 s3 s4 s5 s6 : List Float) (edges : List ℕ) (distances : List Float) : Type 0 where
+pub record Lent (n points : ℕ) (s0 s1 s2 s3 s4 s5 s6 distances : List Float) : Type 0 where
   pub size0 : length s0 ≡ n
   pub size1 : length s1 ≡ n
   pub size2 : length s2 ≡ n
@@ -36,16 +36,12 @@ pub record Lent (n points : ℕ) (s0 s1 s2 s3 s4 s5 s6 : List Float) (edges : Li
   pub size4 : length s4 ≡ n
   pub size5 : length s5 ≡ n
   pub size6 : length s6 ≡ n
-  pub three : length edges ≡ 3 * n
   pub enough : points ≤ length distances
 
--- the field in the first slice, the numbers of the crossed edges in the table, and zeros
-pub record Prepared (ps : List Point) (st : Settings) (r : Found) (s0′ s1′ s2′ s3′ s4′ s5′ s6′ : List Float) (edges′ : List ℕ) (distances distances′ : List Float) : Type 0 where
-  pub level-is : r .level ≡ levelFor ps st
-  pub vertices-are : r .vertices ≡ vertexTotal ps st
-  pub faces-are : r .faces ≡ faceTotal ps st
+-- the level, the field in the first slice, and zeros
+pub record Solved (ps : List Point) (st : Settings) (level : Float) (s0′ s1′ s2′ s3′ s4′ s5′ s6′ distances distances′ : List Float) : Type 0 where
+  pub level-is : level ≡ levelFor ps st
   pub field : s0′ ≡ fieldFor ps st
-  pub numbers : edges′ ≡ edgeTable (fieldFor ps st) (latticeFor ps st) (levelFor ps st)
   pub zero1 : s1′ ≡ zeros32 (8 ^ st .depth)
   pub zero2 : s2′ ≡ zeros32 (8 ^ st .depth)
   pub zero3 : s3′ ≡ zeros32 (8 ^ st .depth)
@@ -53,6 +49,13 @@ pub record Prepared (ps : List Point) (st : Settings) (r : Found) (s0′ s1′ s
   pub zero5 : s5′ ≡ zeros32 (8 ^ st .depth)
   pub zero6 : s6′ ≡ zeros32 (8 ^ st .depth)
   pub no-distances : distances′ ≡ zeros32 (length distances)
+
+-- besides, V and F, and the numbers of the crossed edges in the table
+pub record Prepared (ps : List Point) (st : Settings) (r : Found) (s0′ s1′ s2′ s3′ s4′ s5′ s6′ : List Float) (edges′ : List ℕ) (distances distances′ : List Float) : Type 0 where
+  pub solved : Solved ps st (r .level) s0′ s1′ s2′ s3′ s4′ s5′ s6′ distances distances′
+  pub vertices-are : r .vertices ≡ vertexTotal ps st
+  pub faces-are : r .faces ≡ faceTotal ps st
+  pub numbers : edges′ ≡ edgeTable (fieldFor ps st) (latticeFor ps st) (levelFor ps st)
 
 -- what the drawing asks: all that was prepared, and slices of exactly 3V and 3F
 pub record Drawable (ps : List Point) (st : Settings) (g : Grid) (level : Float) (vs : List Float) (fs : List ℕ) (s0 a b c : List Float) (edges : List ℕ) : Type 0 where

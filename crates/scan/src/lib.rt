@@ -1,12 +1,13 @@
 // Document 01, the stages between the checks and the answer, in the order of the data's way; the middle of `poisson_reconstruction` in the Rust's poisson.rs.
-// `prepare` goes as far as V and F are known, so that a caller can refuse before anything is written; `draw` makes the mesh; `conclude` makes the answer of it.
+// `field_and_level` goes as far as its name says; `prepare` goes on until V and F are known, so that a caller can refuse before anything is written; `draw` makes the
+// mesh; `conclude` makes the answer of it.
 // Lent slices have exactly the stated lengths here.
 ghost use mathlib.Core.Path.{_≡_};
 ghost use Prim.Native.Nat.{_*_, _^_, _≤_};
 ghost use lib.ListN.{length};
 ghost use Rattle.points.specs.Points.{given, usables};
 ghost use Rattle.points.specs.Box.{boundsOf};
-ghost use Rattle.scan.specs.Stages.{GridOver, Lent, Prepared, Drawable, Drawn, concluded};
+ghost use Rattle.scan.specs.Stages.{GridOver, Lent, Solved, Prepared, Drawable, Drawn, concluded};
 use grid::Grid;
 use levels::Problem;
 use points::Bounds;
@@ -30,7 +31,39 @@ pub fn grid_for(bounds: Bounds, settings: Settings) -> Grid
     Grid::new(bounds.origin(), bounds.side(), settings.depth)
 }
 
-// Spacing, field, level, and the numbers of the crossed edges: the field is left in s0 and the numbers in `edges`, all else is zero.
+// Spacing, field, level: the field is left in s0 and the level is returned, all else is zero.
+pub fn field_and_level(
+    points: &[f32],
+    settings: Settings,
+    bounds: Bounds,
+    s0: &mut [f32],
+    s1: &mut [f32],
+    s2: &mut [f32],
+    s3: &mut [f32],
+    s4: &mut [f32],
+    s5: &mut [f32],
+    s6: &mut [f32],
+    distances: &mut [f32],
+) -> f32
+    requires { ⌜ (3 ≤ settings .depth) × (settings .depth ≤ 8) × (given (now points) ≤ 1048576) × (bounds ≡ boundsOf (usables (now points))) ⌝ }
+    requires { ⌜ Lent (8 ^ settings .depth) (given (now points)) (now s0) (now s1) (now s2) (now s3) (now s4) (now s5) (now s6) (now distances) ⌝ }
+    ensures { λ r. ⌜ Solved (usables (now (points .entry))) settings r (now (s0 .exit)) (now (s1 .exit)) (now (s2 .exit)) (now (s3 .exit)) (now (s4 .exit)) (now (s5 .exit)) (now (s6 .exit)) (now (distances .entry)) (now (distances .exit)) ⌝ }
+{
+    let spacing = points::spacing(points, distances, bounds.extent());
+    let origin = bounds.origin();
+    let problem = Problem {
+        origin,
+        size: bounds.side(),
+        spacing,
+        smoothing: settings.smoothing,
+        cap: settings.max_iterations,
+        tolerance: settings.tolerance,
+    };
+    levels::solve(problem, settings.depth, points, s0, s1, s2, s3, s4, s5, s6);
+    surface::level(grid_for(bounds, settings), s0, points, settings.iso_offset)
+}
+
+// The same, and the numbers of the crossed edges, which are left in `edges`.
 pub fn prepare(
     points: &[f32],
     settings: Settings,
@@ -45,23 +78,24 @@ pub fn prepare(
     edges: &mut [u32],
     distances: &mut [f32],
 ) -> Found
-    requires { ⌜ (3 ≤ settings .depth) × (settings .depth ≤ 8) × (given (now points) ≤ 1048576) × (bounds ≡ boundsOf (usables (now points))) ⌝ }
-    requires { ⌜ Lent (8 ^ settings .depth) (given (now points)) (now s0) (now s1) (now s2) (now s3) (now s4) (now s5) (now s6) (now edges) (now distances) ⌝ }
+    requires { ⌜ (3 ≤ settings .depth) × (settings .depth ≤ 8) × (given (now points) ≤ 1048576) × (bounds ≡ boundsOf (usables (now points))) × (length (now edges) ≡ 3 * 8 ^ settings .depth) ⌝ }
+    requires { ⌜ Lent (8 ^ settings .depth) (given (now points)) (now s0) (now s1) (now s2) (now s3) (now s4) (now s5) (now s6) (now distances) ⌝ }
     ensures { λ r. ⌜ Prepared (usables (now (points .entry))) settings r (now (s0 .exit)) (now (s1 .exit)) (now (s2 .exit)) (now (s3 .exit)) (now (s4 .exit)) (now (s5 .exit)) (now (s6 .exit)) (now (edges .exit)) (now (distances .entry)) (now (distances .exit)) ⌝ }
 {
-    let spacing = points::spacing(points, distances, bounds.extent());
-    let origin = bounds.origin();
-    let problem = Problem {
-        origin,
-        size: bounds.side(),
-        spacing,
-        smoothing: settings.smoothing,
-        cap: settings.max_iterations,
-        tolerance: settings.tolerance,
-    };
-    levels::solve(problem, settings.depth, points, s0, s1, s2, s3, s4, s5, s6);
+    let level = field_and_level(
+        points,
+        settings,
+        bounds,
+        s0,
+        s1,
+        s2,
+        s3,
+        s4,
+        s5,
+        s6,
+        distances,
+    );
     let g = grid_for(bounds, settings);
-    let level = surface::level(g, s0, points, settings.iso_offset);
     let totals = extract::number_edges(s0, g.lattice(), level, edges);
     Found {
         level,

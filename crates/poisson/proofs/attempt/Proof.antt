@@ -151,9 +151,9 @@ work-requires c κs =
         size4 = length-take-le n (now (x .s4)) (omega (arith, eight, fit .grids-fit .1 .1 .1 .1 .0)) ∙ eight;
         size5 = length-take-le n (now (x .s5)) (omega (arith, eight, fit .grids-fit .1 .1 .1 .1 .1 .0)) ∙ eight;
         size6 = length-take-le n (now (x .s6)) (omega (arith, eight, fit .grids-fit .1 .1 .1 .1 .1 .1 .0)) ∙ eight;
-        three = length-take-le (3 * n) (now (x .edges)) (omega (arith, eight, fit .edges-fit)) ∙ ap (λ (i : ℕ). 3 * i) eight;
         enough = fit .distances-fit;
       };
+      three = length-take-le (3 * n) (now (x .edges)) (omega (arith, eight, fit .edges-fit)) ∙ ap (λ (i : ℕ). 3 * i) eight;
     }
 
 same-length : tie.Need-same-length

@@ -12,7 +12,9 @@ of-requires : tie.Need-of-requires
 of-requires c κs = search needs
 
 prepare-requires : tie.Need-prepare-requires
-prepare-requires c κs = search needs
+prepare-requires c κs =
+    let ask = c .before .before .before .before .before .before .before .before .before .before .before .before .before .before .before .before .before .before .before .before .before .before .pre in
+    ((ask .deep, ask .shallow, ask .few, c .before .before .before .before .before .before .before .before .before .of .ensures, ask .three), ask .scratch)
 
 grid-for-requires : tie.Need-grid-for-requires
 grid-for-requires c κs = omega (arith, c .before .before .before .before .before .before .before .before .before .before .before .before .before .before .before .before .before .before .before .before .before .before .before .before .before .before .before .before .before .before .before .before .before .before .before .before .before .before .before .before .before .pre .deep, c .before .before .before .before .before .before .before .before .before .before .before .before .before .before .before .before .before .before .before .before .before .before .before .before .before .before .before .before .before .before .before .before .before .before .before .before .before .before .before .before .before .pre .shallow)
@@ -29,10 +31,10 @@ finish-requires c κs =
       depth = nodes-cubed over;
       v-lent = ask .v-lent;
       f-lent = ask .f-lent;
-      level-is = made .ensures .level-is;
+      level-is = made .ensures .solved .level-is;
       vertices-are = made .ensures .vertices-are;
       faces-are = made .ensures .faces-are;
-      field = made .ensures .field;
+      field = made .ensures .solved .field;
       size0 = made .kept .1 .1 .1 .0 ∙ ask .scratch .size0;
       size1 = made .kept .1 .1 .1 .1 .0 ∙ ask .scratch .size1;
       size2 = made .kept .1 .1 .1 .1 .1 .0 ∙ ask .scratch .size2;

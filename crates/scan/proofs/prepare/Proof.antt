@@ -1,50 +1,33 @@
--- Each stage is given what it asks by the one before, and what is left is put together by Preparing.
-use mathlib.Core.Path.{_≡_, refl, sym, ap, ap₂, _∙_}
+-- The numbering is given what the field and the level leave, and counts what Preparing says.
+use mathlib.Core.Path.{sym, ap, _∙_}
 use Prim.Native.Nat.{ℕ, _*_}
 use native.Mathlib.Omega.{arith}
 use denote.Ref.{now}
-use Rattle.lists.specs.Lists.{zeros32}
 use Rattle.points.specs.Points.{usables}
 use Rattle.scan.specs.Reconstruction.{vertexTotal, faceTotal}
-use Rattle.scan.proofs.Preparing.{cubed, nodes-cubed, lattice-size, field-is, grid-is, level-is, counted-is}
+use Rattle.scan.proofs.Preparing.{nodes-cubed, lattice-size, grid-is, counted-is}
 use borrow.Author.Needs.{needs}
 use Rattle.scan.proofs.prepare.Statement.{statement}
 use Rattle.scan.proofs.prepare.Tie as tie
 
-extent-requires : tie.Need-extent-requires
-extent-requires c κs = search needs
-
-spacing-requires : tie.Need-spacing-requires
-spacing-requires c κs = search needs
-
-origin-requires : tie.Need-origin-requires
-origin-requires c κs = search needs
-
-side-requires : tie.Need-side-requires
-side-requires c κs = search needs
-
-solve-requires : tie.Need-solve-requires
-solve-requires c κs =
-    let lent = c .before .before .before .before .before .before .before .before .before .before .before .before .before .before .before .before .before .before .before .before .before .before .before .before .pre .1 in
-    let n = sym (cubed (c .before .before .before .before .before .before .before .before .before .before .before .before .before .before .before .before .before .before .before .before .before .before .before .before .args .settings .depth)) in
-    (omega (arith, c .before .before .before .before .before .before .before .before .before .before .before .before .before .before .before .before .before .before .before .before .before .before .before .before .pre .0 .0, c .before .before .before .before .before .before .before .before .before .before .before .before .before .before .before .before .before .before .before .before .before .before .before .before .pre .0 .1), (record { of-x = lent .size0 ∙ n; of-b = lent .size2 ∙ n; of-s = lent .size3 ∙ n; of-r = lent .size4 ∙ n; of-p = lent .size5 ∙ n; of-ap = lent .size6 ∙ n }, lent .size1 ∙ n))
+field-and-level-requires : tie.Need-field-and-level-requires
+field-and-level-requires c κs =
+    let ask = c .before .before .before .before .before .before .before .before .before .before .before .before .before .before .before .before .before .before .pre in
+    ((ask .0 .0, ask .0 .1, ask .0 .2, ask .0 .3), ask .1)
 
 grid-for-requires : tie.Need-grid-for-requires
-grid-for-requires c κs = omega (arith, c .before .before .before .before .before .before .before .before .before .before .before .before .before .before .before .before .before .before .before .before .before .before .before .before .before .before .before .before .before .before .before .before .before .before .before .before .before .before .before .pre .0 .0, c .before .before .before .before .before .before .before .before .before .before .before .before .before .before .before .before .before .before .before .before .before .before .before .before .before .before .before .before .before .before .before .before .before .before .before .before .before .before .before .pre .0 .1)
-
-level-requires : tie.Need-level-requires
-level-requires c κs = (c .before .grid-for .ensures .sides, (c .before .before .before .before .before .before .before .before .before .before .before .before .before .before .before .before .solve .kept .1 .1 .1 .0 ∙ c .before .before .before .before .before .before .before .before .before .before .before .before .before .before .before .before .before .before .before .before .before .before .before .before .before .before .before .before .before .before .before .before .before .before .before .before .before .before .before .before .before .pre .1 .size0 ∙ sym (nodes-cubed (c .before .grid-for .ensures)), c .before .before .before .before .before .before .before .before .before .before .before .before .before .before .before .before .before .before .before .before .before .before .before .before .before .before .before .before .before .before .before .before .before .before .before .before .before .before .before .before .before .pre .0 .2))
+grid-for-requires c κs = omega (arith, c .before .before .before .before .before .before .before .before .before .before .before .before .before .before .before .before .before .before .before .before .before .before .before .before .before .before .before .before .before .before .before .before .before .before .before .pre .0 .0, c .before .before .before .before .before .before .before .before .before .before .before .before .before .before .before .before .before .before .before .before .before .before .before .before .before .before .before .before .before .before .before .before .before .before .before .pre .0 .1)
 
 lattice-requires : tie.Need-lattice-requires
 lattice-requires c κs = search needs
 
 number-edges-requires : tie.Need-number-edges-requires
 number-edges-requires c κs =
-    let size = lattice-size (c .before .before .before .before .before .grid-for .result) (c .before .lattice .ensures .0) ∙ nodes-cubed (c .before .before .before .before .before .grid-for .ensures) in
+    let size = lattice-size (c .before .before .before .grid-for .result) (c .before .lattice .ensures .0) ∙ nodes-cubed (c .before .before .before .grid-for .ensures) in
     record {
       counts = c .before .lattice .ensures .1;
-      nodes = c .before .before .before .before .before .before .before .before .before .before .before .before .before .before .before .before .before .before .before .before .solve .kept .1 .1 .1 .0 ∙ c .before .before .before .before .before .before .before .before .before .before .before .before .before .before .before .before .before .before .before .before .before .before .before .before .before .before .before .before .before .before .before .before .before .before .before .before .before .before .before .before .before .before .before .before .before .pre .1 .size0 ∙ sym size;
-      edges = c .before .before .before .before .before .before .before .before .before .before .before .before .before .before .before .before .before .before .before .before .before .before .before .before .before .before .before .before .before .before .before .before .before .before .before .before .before .before .before .before .before .before .before .before .before .pre .1 .three ∙ ap (λ (n : ℕ). 3 * n) (sym size);
+      nodes = c .before .before .before .before .before .before .before .before .before .before .before .before .before .before .before .before .before .before .before .before .field-and-level .kept .1 .1 .1 .0 ∙ c .before .before .before .before .before .before .before .before .before .before .before .before .before .before .before .before .before .before .before .before .before .before .before .before .before .before .before .before .before .before .before .before .before .before .before .before .before .before .before .pre .1 .size0 ∙ sym size;
+      edges = c .before .before .before .before .before .before .before .before .before .before .before .before .before .before .before .before .before .before .before .before .before .before .before .before .before .before .before .before .before .before .before .before .before .before .before .before .before .before .before .pre .0 .4 ∙ ap (λ (n : ℕ). 3 * n) (sym size);
     }
 
 same-length : tie.Need-same-length
@@ -72,47 +55,25 @@ same-length-8 : tie.Need-same-length-8
 same-length-8 c = search needs
 
 same-length-9 : tie.Need-same-length-9
-same-length-9 c = c .before .before .before .before .before .before .before .before .before .before .before .before .before .before .before .before .before .before .before .before .before .before .before .before .before .before .before .before .before .before .before .before .before .before .before .spacing .kept .1 .0
+same-length-9 c = search needs
 
 returns : tie.Need-returns
 unfolding vertexTotal faceTotal
 returns c =
-    let x = c .before .before .before .before .before .before .before .before .before .before .before .before .before .before .before .before .before .before .before .before .before .before .before .before .before .before .before .before .before .before .before .before .before .before .before .before .before .before .before .before .before .before .before .before .before .before .before .before .args in
+    let x = c .before .before .before .before .before .before .before .before .before .before .before .before .before .before .before .before .before .before .before .before .before .before .before .before .before .before .before .before .before .before .before .before .before .before .before .before .before .before .before .before .before .before .args in
     let ps = usables (now (x .points)) in
     let st = x .settings in
-    let box = c .before .before .before .before .before .before .before .before .before .before .before .before .before .before .before .before .before .before .before .before .before .before .before .before .before .before .before .before .before .before .before .before .before .before .before .before .before .before .before .before .before .before .before .before .before .before .before .before .pre .0 .3 in
-    let solved = c .before .before .before .before .before .before .before .before .before .before .before .before .before .before .before .before .before .before .before .before .before .before .before .solve .ensures in
-    let eight = ap zeros32 (cubed (st .depth)) in
-    let field = field-is ps st box (c .before .before .before .before .before .before .before .before .before .before .before .before .before .before .before .before .before .before .before .before .before .before .before .before .before .before .before .before .before .before .before .before .origin .ensures) (c .before .before .before .before .before .before .before .before .before .before .before .before .before .before .before .before .before .before .before .before .before .before .before .before .before .before .before .before .before .before .before .side .ensures) (c .before .before .before .before .before .before .before .before .before .before .before .before .before .before .before .before .before .before .before .before .before .before .before .before .before .before .before .before .before .before .before .before .before .before .before .before .extent .ensures) (c .before .before .before .before .before .before .before .before .before .before .before .before .before .before .before .before .before .before .before .before .before .before .before .before .before .before .before .before .before .before .before .before .before .before .before .spacing .ensures .0) refl refl refl (solved .of-x) in
-    let grid = grid-is ps st box (c .before .before .before .before .before .before .before .before .grid-for .ensures) in
-    let level = level-is ps st grid field (c .before .before .before .before .before .before .level .ensures) in
-    let counted = counted-is ps st grid field (c .before .before .before .before .lattice .ensures .0) level (c .before .before .number-edges .ensures) in
-    record {
-      level-is = level;
-      vertices-are = counted .vertices;
-      faces-are = counted .faces;
-      field = field;
-      numbers = counted .numbers;
-      zero1 = solved .of-before ∙ eight;
-      zero2 = solved .of-b ∙ eight;
-      zero3 = solved .of-s ∙ eight;
-      zero4 = solved .of-r ∙ eight;
-      zero5 = solved .of-p ∙ eight;
-      zero6 = solved .of-ap ∙ eight;
-      no-distances = c .before .before .before .before .before .before .before .before .before .before .before .before .before .before .before .before .before .before .before .before .before .before .before .before .before .before .before .before .before .before .before .before .before .before .before .spacing .ensures .1;
-    }
+    let solved = c .before .before .before .before .before .before .before .before .before .before .before .before .before .before .before .before .before .before .before .before .before .before .before .field-and-level .ensures in
+    let grid = grid-is ps st (c .before .before .before .before .before .before .before .before .before .before .before .before .before .before .before .before .before .before .before .before .before .before .before .before .before .before .before .before .before .before .before .before .before .before .before .before .before .before .before .before .before .before .pre .0 .3) (c .before .before .before .before .before .before .grid-for .ensures) in
+    let counted = counted-is ps st grid (solved .field) (c .before .before .before .before .lattice .ensures .0) (solved .level-is) (c .before .before .number-edges .ensures) in
+    record { solved = solved; vertices-are = counted .vertices; faces-are = counted .faces; numbers = counted .numbers }
 
 pub prepare-spec : {M : Type 1} → statement M
 prepare-spec =
     tie.close
     (tie.spec
-    extent-requires
-    spacing-requires
-    origin-requires
-    side-requires
-    solve-requires
+    field-and-level-requires
     grid-for-requires
-    level-requires
     lattice-requires
     number-edges-requires
     same-length

@@ -1,0 +1,90 @@
+-- What is done is told: the answer's fields, and the slices as the call left them.
+use mathlib.Core.Path.{ap, _∙_}
+use mathlib.Core.List.{[]}
+use lib.ListN.{length}
+use denote.Ref.{now}
+use Rattle.lists.specs.Lists.{zero32, padded}
+use Rattle.settings.specs.declared.Answer.{Answer}
+use Rattle.settings.specs.declared.Settings.{Settings}
+use Rattle.scan.specs.FieldAlone.{FieldResults, fieldResults}
+use Rattle.poisson.specs.Outcome.{lengthsOf}
+use Rattle.capi.specs.Flat.{countsOf, valuesOf}
+use borrow.Author.Needs.{needs}
+use Rattle.capi.proofs.poisson_field.Statement.{statement}
+use Rattle.capi.proofs.poisson_field.Tie as tie
+
+settings-from-requires : tie.Need-settings-from-requires
+settings-from-requires c κs = search needs
+
+poisson-field-requires : tie.Need-poisson-field-requires
+poisson-field-requires c κs = search needs
+
+put-counts-requires : tie.Need-put-counts-requires
+put-counts-requires c κs = search needs
+
+put-values-requires : tie.Need-put-values-requires
+put-values-requires c κs = search needs
+
+same-length : tie.Need-same-length
+same-length c = search needs
+
+same-length-2 : tie.Need-same-length-2
+same-length-2 c = search needs
+
+same-length-3 : tie.Need-same-length-3
+same-length-3 c = search needs
+
+same-length-4 : tie.Need-same-length-4
+same-length-4 c = search needs
+
+same-length-5 : tie.Need-same-length-5
+same-length-5 c = search needs
+
+same-length-6 : tie.Need-same-length-6
+same-length-6 c = search needs
+
+same-length-7 : tie.Need-same-length-7
+same-length-7 c = search needs
+
+same-length-8 : tie.Need-same-length-8
+same-length-8 c = search needs
+
+same-length-9 : tie.Need-same-length-9
+same-length-9 c = search needs
+
+same-length-10 : tie.Need-same-length-10
+same-length-10 c = search needs
+
+returns : tie.Need-returns
+returns c =
+    let x = c .before .before .before .before .before .before .before .before .before .before .before .before .before .before .before .before .before .before .before .before .before .before .before .before .before .before .before .before .before .before .before .before .before .before .before .before .before .before .before .before .before .before .before .before .before .before .before .args in
+    let same = ap (λ (st : Settings). fieldResults (now (x .points)) st (lengthsOf [] [] (now (x .s0)) (now (x .s1)) (now (x .s2)) (now (x .s3)) (now (x .s4)) (now (x .s5)) (now (x .s6)) (now (x .edges)) (now (x .distances))) (length (now (x .field)))) (c .before .before .before .before .before .before .before .before .before .before .before .before .before .before .before .before .before .before .before .before .before .before .before .before .before .before .before .before .before .before .before .before .before .before .before .settings-from .ensures) in
+    let done = c .before .before .before .before .before .before .before .before .before .before .before .before .before .before .before .before .before .before .before .before .before .before .before .before .poisson-field .ensures in
+    let answered = done .answered ∙ ap (λ (d : FieldResults). d .answer) same in
+    record {
+      number-is = ap (λ (a : Answer). a .number) answered;
+      counts-are = c .before .before .put-counts .ensures ∙ ap countsOf answered;
+      values-are = c .put-values .ensures ∙ ap valuesOf answered;
+      field-is = done .values ∙ ap (λ (d : FieldResults). padded zero32 (length (now (x .field))) (d .values)) same;
+      scratch = done .scratch;
+    }
+
+pub poisson-field-spec : {M : Type 1} → statement M
+poisson-field-spec =
+    tie.close
+    (tie.spec
+    settings-from-requires
+    poisson-field-requires
+    put-counts-requires
+    put-values-requires
+    same-length
+    same-length-2
+    same-length-3
+    same-length-4
+    same-length-5
+    same-length-6
+    same-length-7
+    same-length-8
+    same-length-9
+    same-length-10
+    returns)
