@@ -7,8 +7,11 @@ use crate::settings::Settings;
 
 /// Memory for the work. With N = 8^depth: seven slices of N, one of 3N, and one element for each given point.
 pub struct Scratch<'a> {
+    /// N each.
     pub grids: [&'a mut [f32]; 7],
+    /// 3N.
     pub edges: &'a mut [u32],
+    /// One for each given point.
     pub distances: &'a mut [f32],
 }
 
@@ -27,21 +30,27 @@ impl Answer {
     /// Not zeros, so that an entry which the library forgot would be seen.
     const UNWRITTEN: Answer = Answer { number: u32::MAX, counts: [u64::MAX; 8], values: [f32::MAX; 8] };
 
+    /// Points that were used.
     pub fn usable(&self) -> usize {
         self.counts[0] as usize
     }
+    /// Vertices of the mesh.
     pub fn vertices(&self) -> usize {
         self.counts[1] as usize
     }
+    /// Faces of the mesh.
     pub fn faces(&self) -> usize {
         self.counts[2] as usize
     }
+    /// The value of the field on the surface.
     pub fn level(&self) -> f32 {
         self.values[0]
     }
+    /// The low corner of the vertices' box.
     pub fn low(&self) -> [f32; 3] {
         [self.values[1], self.values[2], self.values[3]]
     }
+    /// The high corner of the vertices' box.
     pub fn high(&self) -> [f32; 3] {
         [self.values[4], self.values[5], self.values[6]]
     }

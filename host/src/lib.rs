@@ -31,6 +31,7 @@
 //!
 //! [`scan`] reads scans from PLY and text, [`mesh_file`] writes meshes as PLY and OBJ, and the program `hoardmagpie` is made
 //! of the two.
+#![deny(missing_docs)]
 
 mod exported;
 pub mod lent;
@@ -43,6 +44,7 @@ pub use refusal::Refusal;
 pub use settings::{Settings, Trimming};
 
 use lent::{Answer, Scratch};
+use std::collections::HashMap;
 
 /// A scanned point: position x, y, z and normal x, y, z. The normal points out of the part and may have any length.
 pub type Point = [f32; 6];
@@ -50,6 +52,7 @@ pub type Point = [f32; 6];
 /// What a scan was closed to.
 #[derive(Debug, Clone, PartialEq)]
 pub struct Mesh {
+    /// Positions x, y, z.
     pub vertices: Vec<[f32; 3]>,
     /// Three vertex numbers each, counted from 0; seen from outside, anticlockwise.
     pub faces: Vec<[u32; 3]>,
@@ -57,9 +60,21 @@ pub struct Mesh {
     pub usable: usize,
     /// The value of the field on the surface.
     pub level: f32,
-    /// The corners of the vertices' box.
+    /// The low corner of the vertices' box.
     pub low: [f32; 3],
+    /// The high corner of the vertices' box.
     pub high: [f32; 3],
+}
+
+/// Pairs of vertices along which more faces run one way than the other. A closed mesh has none.
+pub fn open_edges(faces: &[[u32; 3]]) -> usize {
+    let mut balance = HashMap::new();
+    for &[a, b, c] in faces {
+        for (from, to) in [(a, b), (b, c), (c, a)] {
+            *balance.entry((from.min(to), from.max(to))).or_insert(0i64) += if from < to { 1 } else { -1 };
+        }
+    }
+    balance.values().filter(|&&sum| sum != 0).count()
 }
 
 /// The scalar field whose level set is the surface.
@@ -67,7 +82,9 @@ pub struct Mesh {
 pub struct Field {
     /// One value for each node; with n = 2^depth, node (i, j, k) is number (i·n + j)·n + k.
     pub values: Vec<f32>,
+    /// The value of the field on the surface.
     pub level: f32,
+    /// Points that were used.
     pub usable: usize,
 }
 

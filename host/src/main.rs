@@ -1,6 +1,6 @@
 //! The program: `hoardmagpie close SCAN -o MESH`.
 use hoardmagpie::mesh_file::{self, Format};
-use hoardmagpie::{reconstruct, scan, Mesh, Settings, Trimming};
+use hoardmagpie::{open_edges, reconstruct, scan, Mesh, Settings, Trimming};
 use std::ffi::OsString;
 use std::fmt::Write as _;
 use std::io::Write as _;
@@ -119,6 +119,14 @@ fn trimming_words(trimming: Trimming) -> String {
     }
 }
 
+/// Counted on the mesh itself, over vertex numbers.
+fn closed_words(open: usize) -> String {
+    match open {
+        0 => "yes".to_string(),
+        _ => format!("no, {open} open edges"),
+    }
+}
+
 fn corner(c: [f32; 3]) -> String {
     c.map(|v| v.to_string()).join(" ")
 }
@@ -138,6 +146,7 @@ fn card(job: &Job, given: usize, mesh: &Mesh, time: Duration) -> String {
     line("vertices", mesh.vertices.len().to_string());
     line("faces", mesh.faces.len().to_string());
     line("level", mesh.level.to_string());
+    line("closed", closed_words(open_edges(&mesh.faces)));
     line("box", format!("{} to {}", corner(mesh.low), corner(mesh.high)));
     line("time", format!("{:.2} s", time.as_secs_f64()));
     line("mesh", job.mesh.display().to_string());
@@ -164,7 +173,8 @@ fn main() -> ExitCode {
             ExitCode::SUCCESS
         }
         Err(Failure { line, status }) => {
-            eprintln!("hoardmagpie: {line}");
+            // One line, whatever the names of files hold.
+            eprintln!("hoardmagpie: {}", line.replace(char::is_control, "?"));
             ExitCode::from(status)
         }
     }

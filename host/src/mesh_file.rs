@@ -7,7 +7,9 @@ use std::path::{Path, PathBuf};
 /// The kinds of file that a mesh is written to.
 #[derive(Debug, Clone, Copy, PartialEq, Eq)]
 pub enum Format {
+    /// Binary, least significant byte first.
     Ply,
+    /// Text.
     Obj,
 }
 

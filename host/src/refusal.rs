@@ -5,15 +5,25 @@ use std::fmt;
 #[derive(Debug, Clone, Copy, PartialEq, Eq, Hash)]
 #[repr(u32)]
 pub enum Refusal {
+    /// No points.
     NoPoints = 1,
+    /// Depth below 3 or above 8.
     Depth = 2,
+    /// Smoothing NaN, zero or negative.
     Smoothing = 3,
+    /// Fewer than 10 usable points.
     TooFewUsable = 4,
+    /// The largest extent is zero.
     OneSpot = 5,
+    /// No face, before or after trimming.
     NoFace = 6,
+    /// The points are not six numbers each, or over 1,048,576.
     PointSlice = 7,
+    /// A scratch slice is shorter than stated.
     ScratchShort = 8,
+    /// The vertex slice is too short for the untrimmed mesh.
     VerticesShort = 9,
+    /// The face slice is too short for the untrimmed mesh.
     FacesShort = 10,
 }
 
@@ -37,6 +47,7 @@ impl Refusal {
         Self::ALL.into_iter().find(|r| r.number() == number)
     }
 
+    /// Document 01's number, 1 to 10.
     pub fn number(self) -> u32 {
         self as u32
     }
@@ -52,7 +63,7 @@ impl Refusal {
             }
             Refusal::OneSpot => "all usable points lie in one spot, so there is nothing to close",
             Refusal::NoFace => {
-                "no face was found: the offset puts the level outside the field, or trimming took every face away"
+                "no surface was found: the offset is too large, trimming took every face away, or the solver made no step"
             }
             Refusal::PointSlice => "the points are not six numbers each, or there are more than 1,048,576 of them",
             Refusal::ScratchShort => "the memory lent for the work is smaller than the depth and the points need",

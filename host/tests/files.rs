@@ -1,8 +1,11 @@
 //! Readers and writers: what is read, what is refused and in what words, and that a mesh comes back as it was written.
+mod folder;
+
+use folder::Folder;
 use hoardmagpie::mesh_file::{self, Format};
 use hoardmagpie::{scan, Mesh, Point};
 use std::fs;
-use std::path::{Path, PathBuf};
+use std::path::Path;
 
 const HEADER: &str = "element vertex 2
 property float x
@@ -260,26 +263,6 @@ fn obj_reads_back_as_the_same_numbers() {
     assert_eq!(rows("f "), faces);
 }
 
-/// A folder of this test's own, which is removed when the test ends.
-struct Folder(PathBuf);
-
-impl Folder {
-    fn new(name: &str) -> Folder {
-        let path = std::env::temp_dir().join(format!("hoardmagpie-{}-{name}", std::process::id()));
-        fs::create_dir_all(&path).unwrap();
-        Folder(path)
-    }
-    fn names(&self) -> Vec<String> {
-        fs::read_dir(&self.0).unwrap().map(|e| e.unwrap().file_name().into_string().unwrap()).collect()
-    }
-}
-
-impl Drop for Folder {
-    fn drop(&mut self) {
-        fs::remove_dir_all(&self.0).unwrap();
-    }
-}
-
 #[test]
 fn a_file_is_whole_or_not_there() {
     let folder = Folder::new("whole");
@@ -292,9 +275,7 @@ fn a_file_is_whole_or_not_there() {
     let taken = folder.0.join("taken.ply");
     fs::create_dir(&taken).unwrap();
     assert!(mesh_file::write(&tetrahedron(), Format::Ply, &taken).is_err());
-    let mut names = folder.names();
-    names.sort();
-    assert_eq!(names, ["part.ply", "taken.ply"]);
+    assert_eq!(folder.names(), ["part.ply", "taken.ply"]);
     assert!(mesh_file::write(&tetrahedron(), Format::Obj, &folder.0.join("none/part.obj")).is_err());
 }
 

@@ -1,6 +1,5 @@
 //! The safe interface: meshes are closed, refusals carry their numbers, the defaults are document 01's.
-use hoardmagpie::{field, reconstruct, Point, Refusal, Settings, Trimming};
-use std::collections::HashMap;
+use hoardmagpie::{field, open_edges, reconstruct, Point, Refusal, Settings, Trimming};
 
 fn ball(count: usize) -> Vec<Point> {
     // Even turns of the golden angle cover a ball evenly.
@@ -35,14 +34,17 @@ fn the_defaults_are_those_of_document_01() {
 fn the_mesh_is_closed() {
     let mesh = reconstruct(&ball(300), &at_depth(5)).unwrap();
     assert_eq!(mesh.usable, 300);
-    let mut balance = HashMap::new();
-    for [a, b, c] in mesh.faces {
-        assert!(a != b && b != c && c != a);
-        for (from, to) in [(a, b), (b, c), (c, a)] {
-            *balance.entry((from.min(to), from.max(to))).or_insert(0) += if from < to { 1 } else { -1 };
-        }
-    }
-    assert!(!balance.is_empty() && balance.values().all(|&n| n == 0));
+    assert!(!mesh.faces.is_empty() && mesh.faces.iter().all(|[a, b, c]| a != b && b != c && c != a));
+    assert_eq!(open_edges(&mesh.faces), 0);
+}
+
+#[test]
+fn open_edges_are_counted() {
+    let tetrahedron = [[0, 1, 2], [0, 3, 1], [1, 3, 2], [2, 3, 0]];
+    assert_eq!(open_edges(&tetrahedron), 0);
+    assert_eq!(open_edges(&tetrahedron[..3]), 3);
+    assert_eq!(open_edges(&[[0, 1, 2], [0, 3, 1], [1, 3, 2], [2, 0, 3]]), 3);
+    assert_eq!(open_edges(&[[0, 1, 1], [0, 1, 1]]), 1);
 }
 
 #[test]
@@ -60,6 +62,7 @@ fn trimming_keeps_some_faces() {
     let whole = reconstruct(&half, &at_depth(4)).unwrap();
     let trimmed = reconstruct(&half, &Settings { trimming: Trimming::Within(0.8), ..at_depth(4) }).unwrap();
     assert!(trimmed.faces.len() < whole.faces.len());
+    assert!(open_edges(&trimmed.faces) > 0);
     assert!(trimmed.faces.as_flattened().iter().all(|&v| (v as usize) < trimmed.vertices.len()));
 }
 

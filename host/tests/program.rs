@@ -1,27 +1,31 @@
 //! The program as it is called: its job card, its files, its refusals and their status.
+mod folder;
+
+use folder::Folder;
 use std::fs;
 use std::path::{Path, PathBuf};
 use std::process::{Command, Output};
 
-/// A folder of this test's own, which is removed when the test ends.
-struct Folder(PathBuf);
+/// The program, called in a folder of its own.
+struct Program {
+    folder: Folder,
+}
 
-impl Folder {
-    fn new(name: &str) -> Folder {
-        let path = std::env::temp_dir().join(format!("hoardmagpie-program-{}-{name}", std::process::id()));
-        fs::create_dir_all(&path).unwrap();
-        Folder(path)
+impl Program {
+    fn new(name: &str) -> Program {
+        Program { folder: Folder::new(&format!("program-{name}")) }
+    }
+
+    fn path(&self, name: &str) -> PathBuf {
+        self.folder.0.join(name)
     }
 
     fn names(&self) -> Vec<String> {
-        let mut names: Vec<String> =
-            fs::read_dir(&self.0).unwrap().map(|e| e.unwrap().file_name().into_string().unwrap()).collect();
-        names.sort();
-        names
+        self.folder.names()
     }
 
     fn run(&self, words: &[&str]) -> Output {
-        Command::new(env!("CARGO_BIN_EXE_hoardmagpie")).args(words).current_dir(&self.0).output().unwrap()
+        Command::new(env!("CARGO_BIN_EXE_hoardmagpie")).args(words).current_dir(&self.folder.0).output().unwrap()
     }
 
     /// Runs the program, which must fail with this status, one line and no output; the line without the program's name.
@@ -34,12 +38,6 @@ impl Folder {
         let line = String::from_utf8(output.stderr).unwrap();
         assert_eq!(line.matches('\n').count(), 1, "{line}");
         line.trim_end().strip_prefix("hoardmagpie: ").expect("the program's name").to_string()
-    }
-}
-
-impl Drop for Folder {
-    fn drop(&mut self) {
-        fs::remove_dir_all(&self.0).unwrap();
     }
 }
 
@@ -68,28 +66,49 @@ fn lines_of(path: &Path, start: &str) -> usize {
 
 #[test]
 fn closes_a_scan_and_prints_the_job_card() {
-    let folder = Folder::new("closes");
-    fs::write(folder.0.join("ball.txt"), ball()).unwrap();
-    let output = folder.run(&["close", "ball.txt", "-o", "ball.obj", "--depth", "4"]);
+    let program = Program::new("closes");
+    fs::write(program.path("ball.txt"), ball()).unwrap();
+    let output = program.run(&["close", "ball.txt", "-o", "ball.obj", "--depth", "4"]);
     assert!(output.status.success() && output.stderr.is_empty(), "{output:?}");
     let card = String::from_utf8(output.stdout).unwrap();
     assert_eq!(card_value(&card, "points"), "27 given, 26 used");
     assert_eq!(card_value(&card, "depth"), "4");
-    assert_eq!(card_value(&card, "vertices"), lines_of(&folder.0.join("ball.obj"), "v ").to_string());
-    assert_eq!(card_value(&card, "faces"), lines_of(&folder.0.join("ball.obj"), "f ").to_string());
+    assert_eq!(card_value(&card, "vertices"), lines_of(&program.path("ball.obj"), "v ").to_string());
+    assert_eq!(card_value(&card, "faces"), lines_of(&program.path("ball.obj"), "f ").to_string());
+    assert_eq!(card_value(&card, "closed"), "yes");
     for name in ["level", "box", "time"] {
         assert!(!card_value(&card, name).is_empty());
     }
-    assert_eq!(folder.names(), ["ball.obj", "ball.txt"]);
+    assert_eq!(program.names(), ["ball.obj", "ball.txt"]);
+}
+
+#[test]
+fn closes_the_example() {
+    let program = Program::new("example");
+    let scan = concat!(env!("CARGO_MANIFEST_DIR"), "/../examples/ring.ply");
+    let output = program.run(&["close", scan, "-o", "ring.ply", "--depth", "5"]);
+    let card = String::from_utf8(output.stdout).unwrap();
+    assert!(output.status.success(), "{card}");
+    assert_eq!(card_value(&card, "points"), "4000 given, 4000 used");
+    assert_eq!(card_value(&card, "closed"), "yes");
+}
+
+#[test]
+fn a_trimmed_mesh_is_told_open() {
+    let program = Program::new("trimmed");
+    fs::write(program.path("ball.txt"), ball()).unwrap();
+    let output = program.run(&["close", "ball.txt", "-o", "ball.ply", "--depth", "4", "--trim", "2"]);
+    let closed = card_value(&String::from_utf8(output.stdout).unwrap(), "closed");
+    assert!(closed.starts_with("no, ") && closed.ends_with(" open edges"), "{closed}");
 }
 
 #[test]
 fn every_setting_reaches_the_library() {
-    let folder = Folder::new("settings");
-    fs::write(folder.0.join("ball.txt"), ball()).unwrap();
+    let program = Program::new("settings");
+    fs::write(program.path("ball.txt"), ball()).unwrap();
     let refused = |option: &str, value: &str, number: u32| {
         let words = ["close", "ball.txt", "-o", "m.ply", "--depth", "3", option, value];
-        let line = folder.fails(1, &words);
+        let line = program.fails(1, &words);
         assert!(line.starts_with(&format!("ball.txt: refused {number}: ")), "{line}");
     };
     refused("--depth", "9", 2);
@@ -102,24 +121,26 @@ fn every_setting_reaches_the_library() {
 
 #[test]
 fn bad_scans_get_one_line() {
-    let folder = Folder::new("bad");
-    fs::write(folder.0.join("few.txt"), "0 0 0 0 0 1\n").unwrap();
-    fs::write(folder.0.join("cut.ply"), "ply\nformat ascii 1.0\n").unwrap();
-    fs::write(folder.0.join("empty.txt"), "").unwrap();
-    let close = |scan: &str| folder.fails(1, &["close", scan, "-o", "m.ply", "--depth", "3"]);
+    let program = Program::new("bad");
+    fs::write(program.path("few.txt"), "0 0 0 0 0 1\n").unwrap();
+    fs::write(program.path("cut.ply"), "ply\nformat ascii 1.0\n").unwrap();
+    fs::write(program.path("empty.txt"), "").unwrap();
+    let close = |scan: &str| program.fails(1, &["close", scan, "-o", "m.ply", "--depth", "3"]);
     assert!(close("few.txt").starts_with("few.txt: refused 4: fewer than ten points can be used"));
     assert_eq!(close("cut.ply"), "cut.ply: the file ends inside its header");
     assert_eq!(close("empty.txt"), "empty.txt: refused 1: the scan holds no points");
     assert!(close("none.ply").starts_with("none.ply: No such file"));
+    assert!(close("two\nlines.ply").starts_with("two?lines.ply: No such file"));
+    assert!(close(".").starts_with(".: Is a directory"));
 }
 
 #[test]
 fn a_mesh_that_cannot_be_written_leaves_nothing() {
-    let folder = Folder::new("unwritten");
-    fs::write(folder.0.join("ball.txt"), ball()).unwrap();
-    fs::write(folder.0.join("scan.obj"), "x").unwrap();
-    fs::create_dir(folder.0.join("folder.ply")).unwrap();
-    let close = |scan: &str, mesh: &str| folder.fails(1, &["close", scan, "-o", mesh, "--depth", "3"]);
+    let program = Program::new("unwritten");
+    fs::write(program.path("ball.txt"), ball()).unwrap();
+    fs::write(program.path("scan.obj"), "x").unwrap();
+    fs::create_dir(program.path("folder.ply")).unwrap();
+    let close = |scan: &str, mesh: &str| program.fails(1, &["close", scan, "-o", mesh, "--depth", "3"]);
     assert!(close("ball.txt", "folder.ply").starts_with("folder.ply: "));
     assert!(close("ball.txt", "none/m.ply").starts_with("none/m.ply: "));
     assert_eq!(close("scan.obj", "./scan.obj"), "scan.obj: the mesh would replace the scan");
@@ -127,9 +148,9 @@ fn a_mesh_that_cannot_be_written_leaves_nothing() {
 
 #[test]
 fn wrong_words_get_one_line() {
-    let folder = Folder::new("words");
+    let program = Program::new("words");
     let usage = |words: &[&str], wanted: &str| {
-        assert_eq!(folder.fails(2, words), format!("{wanted}; hoardmagpie --help lists the options"));
+        assert_eq!(program.fails(2, words), format!("{wanted}; hoardmagpie --help lists the options"));
     };
     usage(&[], "nothing to do");
     usage(&["open"], "`open` is no command");
@@ -144,7 +165,7 @@ fn wrong_words_get_one_line() {
 
 #[test]
 fn help_shows_the_librarys_own_defaults() {
-    let output = Folder::new("help").run(&["--help"]);
+    let output = Program::new("help").run(&["--help"]);
     let text = String::from_utf8(output.stdout).unwrap();
     let d = hoardmagpie::Settings::default();
     assert!(output.status.success());

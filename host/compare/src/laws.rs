@@ -1,6 +1,6 @@
 //! Demand 3, looked at from outside, on meshes that the library and the oracle agree about: what is proved holds of what is run.
+use hoardmagpie::open_edges;
 use oracle::Outcome;
-use std::collections::HashMap;
 
 /// Grid edges with one end below the level and one not. A NaN is below nothing.
 fn crossed_edges(field: &[f32], side: usize, level: f32) -> usize {
@@ -15,17 +15,6 @@ fn crossed_edges(field: &[f32], side: usize, level: f32) -> usize {
     crossed
 }
 
-/// For each pair of vertices, how many more faces run from the lower to the higher than back.
-fn balance(faces: &[[u32; 3]]) -> HashMap<(u32, u32), i64> {
-    let mut balance = HashMap::new();
-    for &[a, b, c] in faces {
-        for (from, to) in [(a, b), (b, c), (c, a)] {
-            *balance.entry((from.min(to), from.max(to))).or_insert(0) += if from < to { 1 } else { -1 };
-        }
-    }
-    balance
-}
-
 /// Looks at an accepted mesh that was not trimmed.
 pub fn closed(mesh: &Outcome, depth: u32) -> Result<(), String> {
     let crossed = crossed_edges(&mesh.seen.field, 1 << depth, mesh.level);
@@ -35,9 +24,9 @@ pub fn closed(mesh: &Outcome, depth: u32) -> Result<(), String> {
     if mesh.faces.iter().any(|[a, b, c]| a == b || b == c || c == a) {
         return Err("a face names a vertex twice".to_string());
     }
-    match balance(&mesh.faces).iter().find(|(_, &sum)| sum != 0) {
-        Some((pair, sum)) => Err(format!("the mesh is open: {sum} faces more one way than back along {pair:?}")),
-        None => Ok(()),
+    match open_edges(&mesh.faces) {
+        0 => Ok(()),
+        open => Err(format!("the mesh has {open} open edges")),
     }
 }
 

@@ -1,6 +1,6 @@
 //! Lends slices full of rubbish to the library and compares every element with what the oracle gives.
-use crate::calls::Call;
-use crate::random::Random;
+use calls::random::Random;
+use calls::Call;
 use hoardmagpie::lent::{self, Answer, Scratch};
 use hoardmagpie::{Settings, Trimming};
 use oracle::{Outcome, PoissonConfig};

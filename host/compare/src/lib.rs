@@ -1,8 +1,5 @@
 //! Compares the library with the oracle on generated calls: the answer, every result element, every scratch element and the
 //! field, bit by bit. Slices are lent full of rubbish, with a fence on either side.
-pub mod calls;
 pub mod laws;
 pub mod lending;
-pub mod random;
-pub mod shapes;
 pub mod tally;

@@ -5,10 +5,10 @@
 //! compare cases FOLDER           recorded cases
 //! compare ring COUNT             a scan of the ring with a third missing, as PLY on standard output
 //! ```
-use compare::calls::{family, Call};
+use calls::random::Random;
+use calls::shapes;
+use calls::{family, Call};
 use compare::lending::compare_default;
-use compare::random::Random;
-use compare::shapes;
 use compare::tally::{at_depth, recorded, Tally};
 use oracle::PoissonConfig;
 use std::io::Write;
@@ -21,31 +21,32 @@ use std::time::{Duration, Instant};
 const SHORT: [(u32, u64); 5] = [(3, 6000), (4, 600), (5, 100), (6, 5), (7, 1)];
 const FULL: [(u32, u64); 6] = [(3, 88_000), (4, 10_000), (5, 2_000), (6, 430), (7, 70), (8, 10)];
 
-/// A part of a list that one thread does at a time.
+/// What one thread does at a time.
 const PART: u64 = 500;
 
-fn parts(list: &[(u32, u64)]) -> Vec<(u32, u64, u64)> {
-    let mut parts = Vec::new();
-    for &(depth, count) in list {
-        for start in (0..count).step_by(PART as usize) {
-            parts.push((depth, PART.min(count - start), u64::from(depth) << 32 | start));
-        }
-    }
-    parts
-}
-
-fn run(list: &[(u32, u64)], threads: usize) -> Tally {
-    let (left, sum) = (Mutex::new(parts(list)), Mutex::new(Tally::default()));
+/// So many calls at one depth. Each part has a seed of its own, so that the number of threads changes nothing.
+fn run_depth(depth: u32, count: u64, threads: usize) -> Tally {
+    let starts = Mutex::new((0..count).step_by(PART as usize));
+    let sum = Mutex::new(Tally::default());
     let work = || loop {
-        let part = left.lock().expect("no thread has failed").pop();
-        let Some((depth, count, seed)) = part else { break };
-        let start = Instant::now();
-        let tally = at_depth(depth, count, seed);
-        eprintln!("depth {depth}: {count} calls, {} differ, {:.0} s", tally.differ, start.elapsed().as_secs_f64());
+        let Some(start) = starts.lock().expect("no thread has failed").next() else { break };
+        let tally = at_depth(depth, PART.min(count - start), u64::from(depth) << 32 | start);
         sum.lock().expect("no thread has failed").merge(&tally);
     };
     std::thread::scope(|s| (0..threads).for_each(|_| drop(s.spawn(work))));
     sum.into_inner().expect("no thread has failed")
+}
+
+/// A list, the cheap depths first; each depth is told when it is done.
+fn run(list: &[(u32, u64)], threads: usize) -> Tally {
+    let mut sum = Tally::default();
+    for &(depth, count) in list {
+        let start = Instant::now();
+        let tally = run_depth(depth, count, threads);
+        println!("depth {depth}: {}", tally.line(start.elapsed()));
+        sum.merge(&tally);
+    }
+    sum
 }
 
 fn fuzz(time: Duration, seed: u64) -> Tally {

@@ -1,11 +1,12 @@
 //! Runs calls and counts what was answered.
-use crate::calls::{family, Call};
 use crate::laws::closed;
 use crate::lending::compare;
-use crate::random::Random;
+use calls::random::Random;
+use calls::{family, Call};
 use oracle::cases::Case;
 use oracle::{Outcome, PoissonConfig};
 use std::path::Path;
+use std::time::Duration;
 use std::{fmt, fs};
 
 /// What was seen of some calls.
@@ -58,6 +59,12 @@ impl Tally {
                 eprintln!("{difference}\n  kept as {}", keep(call, state));
             }
         }
+    }
+
+    /// In one line: calls, differences, and the calls by their number from 0 on.
+    pub fn line(&self, time: Duration) -> String {
+        let (calls, differ, seconds) = (self.calls(), self.differ, time.as_secs());
+        format!("{calls} calls, {differ} differ, answers {:?}, closed {}, {seconds} s", self.by_number, self.closed)
     }
 
     pub fn merge(&mut self, other: &Tally) {

@@ -1,8 +1,8 @@
 //! The recorded cases, a few generated calls, and runs without end. `compare short` and `compare full` do it at scale.
-use compare::calls::Call;
+use calls::random::Random;
+use calls::shapes;
+use calls::Call;
 use compare::lending::settings;
-use compare::random::Random;
-use compare::shapes;
 use compare::tally::{at_depth, recorded};
 use hoardmagpie::{reconstruct, Point};
 use oracle::PoissonConfig;

@@ -26,7 +26,7 @@ pub use poisson::{loops, PoissonConfig};
 pub use window::Seen;
 
 use std::time::Duration;
-use threecrate_core::{Error, NormalPoint3f, Point3f, PointCloud, TriangleMesh, Vector3f};
+use threecrate_core::{Error, NormalPoint3f, Point3f, PointCloud, Result, TriangleMesh, Vector3f};
 
 /// The text of `poisson` as it is compiled.
 pub const PATCHED_TEXT: &str = include_str!(concat!(env!("OUT_DIR"), "/poisson.rs"));
@@ -85,8 +85,17 @@ pub fn answer(points: &[f32], config: &PoissonConfig, room: &Room) -> Outcome {
     if !points.len().is_multiple_of(6) || points.len() / 6 > MOST_POINTS {
         return Outcome { number: 7, ..Outcome::default() };
     }
+    answer_of(points, room, |cloud| poisson::poisson_reconstruction(cloud, config))
+}
+
+/// The same of another version of the published function, with the windows in its text.
+pub fn answer_of(
+    points: &[f32],
+    room: &Room,
+    function: impl FnOnce(&PointCloud<NormalPoint3f>) -> Result<TriangleMesh>,
+) -> Outcome {
     window::open(Room { given: points.len() / 6, ..*room });
-    let result = poisson::poisson_reconstruction(&cloud(points), config);
+    let result = function(&cloud(points));
     let seen = window::close();
     match result {
         Err(error) => Outcome { number: number(&error), seen, ..Outcome::default() },
@@ -166,13 +175,13 @@ pub fn exp_neg(x: f64) -> f32 {
     canonical(s as f32)
 }
 
-fn squared_distance(a: &Point3f, b: &Point3f) -> f32 {
+pub fn squared_distance(a: &Point3f, b: &Point3f) -> f32 {
     let (dx, dy, dz) = (a.x - b.x, a.y - b.y, a.z - b.z);
     (dx * dx + dy * dy) + dz * dz
 }
 
 /// The two smallest distances from `query`, itself included, in the shape of the tree's answer; the caller reads no index.
-fn two_nearest(points: &[Point3f], query: &Point3f) -> Vec<(usize, f32)> {
+pub fn two_nearest(points: &[Point3f], query: &Point3f) -> Vec<(usize, f32)> {
     let (mut first, mut second) = (f32::INFINITY, f32::INFINITY);
     for p in points {
         let d = squared_distance(p, query).sqrt();

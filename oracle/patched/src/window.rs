@@ -18,6 +18,8 @@ pub struct Seen {
     pub looks: Vec<(f64, f64)>,
     /// Whether the faces were turned round.
     pub turned: bool,
+    /// NaNs of the field and the level whose pattern is not 01's.
+    pub strays: usize,
     /// Processor time from the call's start until the field and the level were there.
     pub field_time: Duration,
 }
@@ -50,7 +52,7 @@ pub(crate) fn refusal(number: u32) -> Error {
 }
 
 /// Number 8: stands after the published checks of points, depth and smoothing, and before the count of usable points.
-pub(crate) fn scratch(depth: u32) -> Result<()> {
+pub fn scratch(depth: u32) -> Result<()> {
     let short = with(|w| w.room.scratch_is_short(1 << (3 * depth)));
     if short {
         Err(refusal(8))
@@ -59,21 +61,23 @@ pub(crate) fn scratch(depth: u32) -> Result<()> {
     }
 }
 
-pub(crate) fn look(rr: f64, b_norm: f64) {
+pub fn look(rr: f64, b_norm: f64) {
     with(|w| w.seen.looks.push((rr, b_norm)));
 }
 
-pub(crate) fn solved(usable: usize, field: &[f32], level: f32) {
+pub fn solved(usable: usize, field: &[f32], level: f32) {
     with(|w| {
         w.seen.field_time = crate::thread_time() - w.start;
         w.seen.usable = usable;
+        let stray = |v: &&f32| v.to_bits() != canonical(**v).to_bits();
+        w.seen.strays = field.iter().chain([&level]).filter(stray).count();
         w.seen.field = field.iter().map(|&v| canonical(v)).collect();
         w.seen.level = canonical(level);
     });
 }
 
 /// Numbers 9 and 10: by the untrimmed mesh, and before the published "no triangles".
-pub(crate) fn results(mesh: &TriangleMesh) -> Result<()> {
+pub fn results(mesh: &TriangleMesh) -> Result<()> {
     let [v, f] = [mesh.vertices.len(), mesh.faces.len()];
     with(|w| {
         w.seen.untrimmed = [v, f];
@@ -87,6 +91,6 @@ pub(crate) fn results(mesh: &TriangleMesh) -> Result<()> {
     })
 }
 
-pub(crate) fn turned(turned: bool) {
+pub fn turned(turned: bool) {
     with(|w| w.seen.turned = turned);
 }

@@ -1,7 +1,9 @@
 //! Generated calls of every kind: sound scans, damaged copies, extreme settings, and slices one element too short or too long.
-use crate::random::Random;
-use crate::shapes;
+pub mod random;
+pub mod shapes;
+
 use oracle::{answer, Outcome, PoissonConfig, Room};
+use random::Random;
 
 /// A call and the lengths of all slices that are lent with it.
 #[derive(Debug, Clone)]
@@ -54,19 +56,21 @@ pub fn family(r: &mut Random, depth: u32) -> Vec<Call> {
     calls
 }
 
-/// The most steps that are affordable at a depth, now and then all that the default allows.
+/// The most steps: few at the larger depths, where a step takes long, and now and then as many as a scan needs.
 fn steps(r: &mut Random, depth: u32) -> usize {
     match depth {
         0..=3 => r.pick(&[0, 1, 2, 5, 40, 1000, 1000]),
         4 => r.pick(&[0, 1, 3, 20, 40, 200]),
         5 => r.pick(&[1, 4, 15, 40, 100]),
+        6 if r.once_in(10) => 1000,
         6 => r.pick(&[1, 4, 12]),
+        7 if r.once_in(40) => 400,
         _ => r.pick(&[1, 2, 3]),
     }
 }
 
 /// A scan as a scanner gives it, and settings that a person would choose.
-fn sound(r: &mut Random, depth: u32) -> Call {
+pub fn sound(r: &mut Random, depth: u32) -> Call {
     let count = if r.once_in(40) { 1990 + r.below(20) } else { 10 + r.below(150) };
     let scale = 10f64.powf(r.between(-3.0, 4.0));
     let at = [0; 3].map(|_| r.between(-5.0, 5.0) * scale);
@@ -83,7 +87,7 @@ fn sound(r: &mut Random, depth: u32) -> Call {
 }
 
 /// Scales at which squares vanish or overflow, and settings that no person would choose.
-fn extreme(r: &mut Random, depth: u32) -> Call {
+pub fn extreme(r: &mut Random, depth: u32) -> Call {
     let (low, high) = r.pick(&[(-46.0, 38.5), (-24.0, -20.0), (18.0, 22.0), (-45.5, -43.0), (19.0, 20.5), (-3.0, 3.0)]);
     let scale = 10f64.powf(r.between(low, high));
     let count = 9 + r.below(30);
@@ -104,7 +108,7 @@ fn extreme(r: &mut Random, depth: u32) -> Call {
 }
 
 /// A copy with some numbers or bits changed, points doubled or left out, or settings changed.
-fn damaged(r: &mut Random, base: &Call) -> Call {
+pub fn damaged(r: &mut Random, base: &Call) -> Call {
     let mut points = base.points.clone();
     let mut config = base.config.clone();
     for _ in 0..1 + r.below(4) {
@@ -175,7 +179,7 @@ fn slice_length(c: &mut Call, slice: usize) -> &mut usize {
 }
 
 /// Levels that equal a node's value or lie at the field's ends, and a tolerance that the residual meets exactly.
-fn aimed(r: &mut Random, base: &Call) -> Vec<Call> {
+pub fn aimed(r: &mut Random, base: &Call) -> Vec<Call> {
     let plain = base.with(|c| c.config.iso_offset = 0.0);
     let seen = plain.oracle().seen;
     if seen.field.is_empty() {
@@ -203,7 +207,7 @@ fn aimed(r: &mut Random, base: &Call) -> Vec<Call> {
 }
 
 /// Trimming at distances whose square is a face's own squared distance, and at its neighbours.
-fn trims(r: &mut Random, base: &Call) -> Vec<Call> {
+pub fn trims(r: &mut Random, base: &Call) -> Vec<Call> {
     let whole = base.with(|c| c.config.trim_distance = None);
     let mesh = whole.oracle();
     let mut calls = vec![whole.clone()];
