@@ -1,8 +1,3 @@
 -- The laws that the proofs of this crate share.
-pub mod Offset
-pub mod Moved
-pub mod Terms
-pub mod Runs
-pub mod Axes
 pub mod RightSide
 pub mod Corners

@@ -13,9 +13,11 @@ use Rattle.grid.specs.Grid.{atEnd, boundaryRow}
 use Rattle.grid.specs.Rows.{boundary-row, no-end}
 use Rattle.grid.specs.declared.Grid.{Grid}
 use Rattle.points.specs.declared.point.Point.{Point}
-use Rattle.field.specs.declared.kernel.Kernel.{Kernel}
-use Rattle.field.specs.Field.{sigmaOf, radiusOf, offsetsOf, kernelOf, rightSideAt, rightSideBy, rightSide}
-use Rattle.field.specs.Inner.{KernelOf, innerAt, rowAt}
+use Rattle.blur.specs.declared.kernel.Kernel.{Kernel}
+use Rattle.blur.specs.Blur.{sigmaOf, radiusOf, offsetsOf, kernelOf}
+use Rattle.blur.specs.Inner.{KernelOf}
+use Rattle.field.specs.Field.{rightSideAt, rightSideBy, rightSide}
+use Rattle.field.specs.Inner.{innerAt, rowAt}
 
 module _ (n : ℕ) (h : Float) (x y z : List Float) where
   -- ---- a row off the boundary

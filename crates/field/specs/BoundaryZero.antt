@@ -10,7 +10,8 @@ use Rattle.lists.specs.Tabulate.{length-tabulate, at-tabulate}
 use Rattle.grid.specs.declared.Grid.{Grid}
 use Rattle.grid.specs.Grid.{boundaryNode}
 use Rattle.points.specs.declared.point.Point.{Point}
-use Rattle.field.specs.Field.{blurred, componentOf, divergenceAt, rightSideAt, rightSideBy, rightSide}
+use Rattle.blur.specs.Blur.{blurred}
+use Rattle.field.specs.Field.{componentOf, divergenceAt, rightSideAt, rightSideBy, rightSide}
 
 pub length-component : (g : Grid) (ps : List Point) (radius : ℕ) (kernel : List Float) (a : ℕ) → length (componentOf g ps radius kernel a) ≡ g .nodes * g .nodes * g .nodes
 unfolding componentOf blurred

@@ -1,8 +1,6 @@
-// Document 01, "Field", beside `vector_field`, `blur_axis` and `rhs` of the Rust's poisson.rs: the right side of the solver's equation on one grid.
+// Document 01, "Field", beside `vector_field` and `rhs` of the Rust's poisson.rs: the right side of the solver's equation on one grid. The blur is the crate `blur`'s.
 // The Rust holds three components and blurs each into a new Vec; here each is spread into one slice and blurred to and fro between that and its own.
-mod blur;
 mod divergence;
-mod kernel;
 mod splat;
 
 ghost use mathlib.Core.Path.{_≡_};
@@ -11,20 +9,10 @@ ghost use lib.ListN.{length};
 ghost use Rattle.lists.specs.Lists.{zeros32};
 ghost use Rattle.grid.specs.Grid.{Sides};
 ghost use Rattle.points.specs.Points.{usables};
-ghost use Rattle.field.specs.Field.{offsetsOf, blurred, componentOf, rightSideBy, rightSide};
-pub use blur::blur_axis;
+ghost use Rattle.blur.specs.Blur.{offsetsOf};
+ghost use Rattle.field.specs.Field.{componentOf, rightSideBy, rightSide};
+use blur::Kernel;
 use grid::Grid;
-pub use kernel::Kernel;
-
-// Axes 0, 1, 2: from s to out, back, and again. What is left in s is of no use.
-fn blur_all(g: Grid, kernel: &[f32], radius: usize, s: &mut [f32], out: &mut [f32])
-    requires { ⌜ Sides (g .nodes) × (radius ≤ 18) × (length (now kernel) ≡ offsetsOf radius) × (length (now s) ≡ g .nodes * g .nodes * g .nodes) × (length (now out) ≡ g .nodes * g .nodes * g .nodes) ⌝ }
-    ensures { λ _. ⌜ now (out .exit) ≡ blurred (g .nodes) radius (now (kernel .entry)) (now (s .entry)) ⌝ }
-{
-    blur::blur_axis(g, s, out, 0, kernel, radius);
-    blur::blur_axis(g, out, s, 1, kernel, radius);
-    blur::blur_axis(g, s, out, 2, kernel, radius);
-}
 
 // One component of the field, by way of s.
 fn component(
@@ -40,7 +28,7 @@ fn component(
     ensures { λ _. ⌜ now (out .exit) ≡ componentOf g (usables (now (points .entry))) radius (now (kernel .entry)) a ⌝ }
 {
     splat::splat(g, points, a, s);
-    blur_all(g, kernel, radius, s, out);
+    blur::blur_all(g, kernel, radius, s, out);
 }
 
 // The right side, with the blur's weights at hand. x, y and z take the components.

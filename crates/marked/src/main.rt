@@ -1,7 +1,7 @@
 // The marked cases of document 01 run through the functions: each line is a case and what the function answers, as a bit pattern or a count.
 // specs/Marked.antt proves the same of the definitions.
 ghost use mathlib.Core.Path.{_≡_};
-use field::Kernel;
+use blur::Kernel;
 use grid::Edge;
 use grid::Grid;
 use libc::STDOUT_FILENO;

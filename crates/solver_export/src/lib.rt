@@ -1,4 +1,4 @@
-// Functions of `field`, `solver` and `levels` for C and Rust to call, so that they can be tested and timed on any processor. Each is that of its crate, and its contract
+// Functions of `blur`, `solver` and `levels` for C and Rust to call, so that they can be tested and timed on any processor. Each is that of its crate, and its contract
 // too. The caller keeps what a `requires` asks: lengths that fit. Nothing checks it at the boundary.
 ghost use mathlib.Core.Path.{_≡_};
 ghost use mathlib.Core.List.{[], _∷_};
@@ -7,7 +7,7 @@ ghost use lib.ListN.{length};
 ghost use Rattle.lists.specs.Lists.{tabulate};
 ghost use Rattle.grid.specs.Grid.{Sides};
 ghost use Rattle.points.specs.Points.{usables};
-ghost use Rattle.field.specs.Field.{offsetsOf, blurredAlong};
+ghost use Rattle.blur.specs.Blur.{offsetsOf, blurredAlong};
 ghost use Rattle.solver.specs.Solver.{applyAt, conjugate};
 ghost use Rattle.solver.specs.Inner as level;
 ghost use Rattle.levels.specs.Levels.{nodesAt, solution};
@@ -36,7 +36,7 @@ pub extern "C" fn hoardmagpie_blur_axis(
         origin: [0.0, 0.0, 0.0],
         step: 0.0,
     };
-    field::blur_axis(g, v, out, axis, kernel, radius);
+    blur::blur_axis(g, v, out, axis, kernel, radius);
 }
 
 // A x.

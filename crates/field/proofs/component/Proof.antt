@@ -2,7 +2,8 @@
 -- Assumes nothing.
 use mathlib.Core.Path.{ap, _∙_}
 use denote.Ref.{now}
-use Rattle.field.specs.Field.{blurred, componentOf}
+use Rattle.blur.specs.Blur.{blurred}
+use Rattle.field.specs.Field.{componentOf}
 use borrow.Author.Needs.{needs}
 use Rattle.field.proofs.component.Statement.{statement}
 use Rattle.field.proofs.component.Tie as tie

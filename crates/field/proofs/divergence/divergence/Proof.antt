@@ -10,7 +10,7 @@ use Rattle.lists.specs.Lists.{tabulate, part}
 use Rattle.lists.specs.Fill.{Filled, filled-none, filled-done}
 use Rattle.lists.specs.Part.{length-part, filled-part}
 use Rattle.grid.specs.Rows.{row-next, square-most, inner-row}
-use Rattle.field.proofs.Axes.{Within, within-cube}
+use Rattle.blur.specs.Within.{Within, within-cube}
 use Rattle.field.specs.Field.{rightSideAt}
 use Rattle.field.specs.Inner.{rowAt}
 use Rattle.field.proofs.RightSide.{row-at}

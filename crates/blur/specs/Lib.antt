@@ -1,0 +1,5 @@
+-- Document 01's blur: the definitions, then what callers and proofs know of them.
+pub mod Blur
+pub mod Inner
+pub mod Radius
+pub mod Within
