@@ -46,14 +46,15 @@ fn clouds(count: usize, runs: usize) {
     row(&format!("usable count, {count} points"), "ms", ours / 1e6, theirs / 1e6);
 }
 
-/// Samples at a million random places, or at as many that follow each other along a row.
+/// Samples at a million places: random ones, points of a scan in no order (a sphere in its cube), and places that follow each other along a row.
 fn samples(n: usize) {
     let mut patterns = Patterns::new(5);
     let values: Vec<f32> = (0..n * n * n).map(|_| (patterns.bits() >> 40) as f32).collect();
     let (origin, h) = ([-0.5; 3], 1.0 / (n - 1) as f64);
     let random: Vec<[f64; 3]> = (0..1 << 20).map(|_| [0; 3].map(|_| (patterns.bits() >> 11) as f64 / (1u64 << 53) as f64 - 0.5)).collect();
     let row_of: Vec<[f64; 3]> = (0..1 << 20).map(|k| [0.1, 0.2, k as f64 / (1 << 20) as f64 - 0.5]).collect();
-    for (name, places) in [("random", &random), ("in a row", &row_of)] {
+    let scan: Vec<[f64; 3]> = sphere(1 << 20).chunks(6).map(|p| [0, 1, 2].map(|a| f64::from(p[a]) * 0.5 / 1.2)).collect();
+    for (name, places) in [("random", &random), ("a scan", &scan), ("in a row", &row_of)] {
         let each = |call: fn(&[f32], usize, [f64; 3], f64, [f64; 3]) -> f64| {
             let all = best(9, || {
                 for &p in places {
