@@ -1,8 +1,9 @@
+-- The laws that the functions' proofs cite: a cell and its rows, the first pass, then the second.
 pub mod Cells
-pub mod FirstPlace
-pub mod FirstUse
-pub mod Marking
-pub mod Placing
-pub mod Plain
-pub mod Points
 pub mod Rows
+pub mod Plain
+pub mod Marking
+pub mod FirstUse
+pub mod Placing
+pub mod FirstPlace
+pub mod Points

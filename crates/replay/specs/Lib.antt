@@ -1,1 +1,2 @@
+-- What the lists of worked values are made of.
 pub mod Words

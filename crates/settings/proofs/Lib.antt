@@ -1,1 +1,2 @@
+-- The law that the functions' proofs cite.
 pub mod Verdicts
