@@ -1,14 +1,47 @@
--- A refusal clears the values' slice; once the checks pass, all scratch is as long as stated, and parts of exactly that length are handed on.
-use mathlib.Core.Path.{sym, _∙_}
-use native.Mathlib.Omega.{arith}
+-- A refusal clears the values' slice; once the checks pass, all scratch is as long as stated (`rooms`), and parts of exactly that length are handed on.
+use mathlib.Core.Path.{_≡_, sym, _∙_, subst}
+use Prim.Native.Nat.{ℕ, _^_, _≤_}
+use lib.ListN.{length}
 use lib.Seq.{length-take-le}
 use denote.Ref.{now}
 use Rattle.settings.proofs.Verdicts.{refuses}
+use Rattle.settings.specs.declared.Lengths.{Lengths}
+use Rattle.settings.specs.Passed.{Fit, Ready}
 use Rattle.alone.specs.Outcome.{fieldLengths}
 use Rattle.alone.proofs.Results.{field-refused, field-ready, field-passed}
 use borrow.Author.Needs.{needs}
 use Rattle.alone.proofs.attempt_field.Statement.{statement}
 use Rattle.alone.proofs.attempt_field.Tie as tie
+
+-- ---- the places, and what is known there
+
+-- the entry, seen from behind the checks; and those, seen from where they have passed
+abbrev entry : tie.After-inspect-field → tie.Start
+entry c = c .before .before .before .before .before .before .before .before .before .before .before .before
+
+abbrev inspected : tie.After-enum-told → tie.After-inspect-field
+inspected c = c .before .before
+
+abbrev passed : tie.After-enum-told → tie.Start
+passed c = entry (inspected c)
+
+-- how long the scratch is that was lent
+abbrev lent : tie.Start → Lengths
+lent s =
+    let x = s .args in
+    fieldLengths (now (x .s0)) (now (x .s1)) (now (x .s2)) (now (x .s3)) (now (x .s4)) (now (x .s5)) (now (x .s6)) (now (x .edges)) (now (x .distances))
+
+-- what the checks tell, and that the values have room
+ready : (c : tie.After-enum-told) → Ready (now (passed c .args .points)) (passed c .args .settings) (lent (passed c)) × (8 ^ passed c .args .settings .depth ≤ length (now (passed c .args .field)))
+ready c =
+    let s = passed c in
+    field-ready (now (s .args .points)) (s .args .settings) (lent s) (now (s .args .field)) (inspected c .inspect-field .ensures) (c .enum-told .given .1)
+
+-- each of the seven slices has room for n values
+rooms : (c : tie.After-nodes) → Fit (c .nodes .result) (lent (passed (c .before)) .grids)
+rooms c = subst (λ (n : ℕ). Fit n (lent (passed (c .before)) .grids)) (sym (c .nodes .ensures .0)) (ready (c .before) .0 .grids-fit)
+
+-- ---- the needs
 
 inspect-field-requires : tie.Need-inspect-field-requires
 inspect-field-requires c κs = search needs
@@ -27,118 +60,82 @@ same-length c = search needs
 
 returns : tie.Need-returns
 returns c =
-    let x = c .before .before .before .before .before .before .before .before .before .before .before .before .before .before .before .before .before .before .args in
-    field-refused (now (x .points)) (x .settings) (fieldLengths (now (x .s0)) (now (x .s1)) (now (x .s2)) (now (x .s3)) (now (x .s4)) (now (x .s5)) (now (x .s6)) (now (x .edges)) (now (x .distances))) (now (x .field)) (c .before .before .before .before .before .before .inspect-field .ensures) (c .refused .result) _ (refuses (c .before .before .before .before .before .before .inspect-field .result) (c .before .before .before .before .before .match .keys2)) (c .refused .ensures) (c .before .before .before .clear-f32 .ensures)
+    let d = c .before .before .before .before .before .before in
+    let s = entry d in
+    field-refused (now (s .args .points)) (s .args .settings) (lent s) (now (s .args .field)) (d .inspect-field .ensures) (c .refused .result) _ (refuses (d .inspect-field .result) (c .before .before .before .before .before .match .keys2)) (c .refused .ensures) (c .before .before .before .clear-f32 .ensures)
 
 nodes-requires : tie.Need-nodes-requires
-nodes-requires c κs =
-    let x = c .before .before .before .before .before .before .before .before .before .before .before .before .before .before .args in
-    field-ready (now (x .points)) (x .settings) (fieldLengths (now (x .s0)) (now (x .s1)) (now (x .s2)) (now (x .s3)) (now (x .s4)) (now (x .s5)) (now (x .s6)) (now (x .edges)) (now (x .distances))) (now (x .field)) (c .before .before .inspect-field .ensures) (c .enum-told .given .1) .0 .shallow
+nodes-requires c κs = ready c .0 .shallow
 
 slice-relend-prefix-solve-field : tie.Need-slice-relend-prefix-solve-field
-slice-relend-prefix-solve-field c =
-    let x = c .before .before .before .before .before .before .before .before .before .before .before .before .before .before .before .before .args in
-    let fit = field-ready (now (x .points)) (x .settings) (fieldLengths (now (x .s0)) (now (x .s1)) (now (x .s2)) (now (x .s3)) (now (x .s4)) (now (x .s5)) (now (x .s6)) (now (x .edges)) (now (x .distances))) (now (x .field)) (c .before .before .before .before .inspect-field .ensures) (c .before .before .enum-told .given .1) .0 in
-    omega (arith, c .before .nodes .ensures .0, fit .grids-fit .0)
+slice-relend-prefix-solve-field c = rooms (c .before) .0
 
 slice-aggregate-solve-field : tie.Need-slice-aggregate-solve-field
 slice-aggregate-solve-field c =
-    let x = c .before .before .before .before .before .before .before .before .before .before .before .before .before .before .before .before .before .args in
-    let fit = field-ready (now (x .points)) (x .settings) (fieldLengths (now (x .s0)) (now (x .s1)) (now (x .s2)) (now (x .s3)) (now (x .s4)) (now (x .s5)) (now (x .s6)) (now (x .edges)) (now (x .distances))) (now (x .field)) (c .before .before .before .before .before .inspect-field .ensures) (c .before .before .before .enum-told .given .1) .0 in
-    sym (length-take-le (c .before .before .nodes .result) (now (x .s0)) (omega (arith, c .before .before .nodes .ensures .0, fit .grids-fit .0)))
+    let d = c .before .before in sym (length-take-le (d .nodes .result) (now (passed (d .before) .args .s0)) (rooms d .0))
 
 slice-relend-prefix-solve-field-2 : tie.Need-slice-relend-prefix-solve-field-2
-slice-relend-prefix-solve-field-2 c =
-    let x = c .before .before .before .before .before .before .before .before .before .before .before .before .before .before .before .before .before .args in
-    let fit = field-ready (now (x .points)) (x .settings) (fieldLengths (now (x .s0)) (now (x .s1)) (now (x .s2)) (now (x .s3)) (now (x .s4)) (now (x .s5)) (now (x .s6)) (now (x .edges)) (now (x .distances))) (now (x .field)) (c .before .before .before .before .before .inspect-field .ensures) (c .before .before .before .enum-told .given .1) .0 in
-    omega (arith, c .before .before .nodes .ensures .0, fit .grids-fit .1 .0)
+slice-relend-prefix-solve-field-2 c = rooms (c .before .before) .1 .0
 
 slice-aggregate-solve-field-2 : tie.Need-slice-aggregate-solve-field-2
 slice-aggregate-solve-field-2 c =
-    let x = c .before .before .before .before .before .before .before .before .before .before .before .before .before .before .before .before .before .before .args in
-    let fit = field-ready (now (x .points)) (x .settings) (fieldLengths (now (x .s0)) (now (x .s1)) (now (x .s2)) (now (x .s3)) (now (x .s4)) (now (x .s5)) (now (x .s6)) (now (x .edges)) (now (x .distances))) (now (x .field)) (c .before .before .before .before .before .before .inspect-field .ensures) (c .before .before .before .before .enum-told .given .1) .0 in
-    sym (length-take-le (c .before .before .before .nodes .result) (now (x .s1)) (omega (arith, c .before .before .before .nodes .ensures .0, fit .grids-fit .1 .0)))
+    let d = c .before .before .before in sym (length-take-le (d .nodes .result) (now (passed (d .before) .args .s1)) (rooms d .1 .0))
 
 slice-relend-prefix-solve-field-3 : tie.Need-slice-relend-prefix-solve-field-3
-slice-relend-prefix-solve-field-3 c =
-    let x = c .before .before .before .before .before .before .before .before .before .before .before .before .before .before .before .before .before .before .args in
-    let fit = field-ready (now (x .points)) (x .settings) (fieldLengths (now (x .s0)) (now (x .s1)) (now (x .s2)) (now (x .s3)) (now (x .s4)) (now (x .s5)) (now (x .s6)) (now (x .edges)) (now (x .distances))) (now (x .field)) (c .before .before .before .before .before .before .inspect-field .ensures) (c .before .before .before .before .enum-told .given .1) .0 in
-    omega (arith, c .before .before .before .nodes .ensures .0, fit .grids-fit .1 .1 .0)
+slice-relend-prefix-solve-field-3 c = rooms (c .before .before .before) .1 .1 .0
 
 slice-aggregate-solve-field-3 : tie.Need-slice-aggregate-solve-field-3
 slice-aggregate-solve-field-3 c =
-    let x = c .before .before .before .before .before .before .before .before .before .before .before .before .before .before .before .before .before .before .before .args in
-    let fit = field-ready (now (x .points)) (x .settings) (fieldLengths (now (x .s0)) (now (x .s1)) (now (x .s2)) (now (x .s3)) (now (x .s4)) (now (x .s5)) (now (x .s6)) (now (x .edges)) (now (x .distances))) (now (x .field)) (c .before .before .before .before .before .before .before .inspect-field .ensures) (c .before .before .before .before .before .enum-told .given .1) .0 in
-    sym (length-take-le (c .before .before .before .before .nodes .result) (now (x .s2)) (omega (arith, c .before .before .before .before .nodes .ensures .0, fit .grids-fit .1 .1 .0)))
+    let d = c .before .before .before .before in sym (length-take-le (d .nodes .result) (now (passed (d .before) .args .s2)) (rooms d .1 .1 .0))
 
 slice-relend-prefix-solve-field-4 : tie.Need-slice-relend-prefix-solve-field-4
-slice-relend-prefix-solve-field-4 c =
-    let x = c .before .before .before .before .before .before .before .before .before .before .before .before .before .before .before .before .before .before .before .args in
-    let fit = field-ready (now (x .points)) (x .settings) (fieldLengths (now (x .s0)) (now (x .s1)) (now (x .s2)) (now (x .s3)) (now (x .s4)) (now (x .s5)) (now (x .s6)) (now (x .edges)) (now (x .distances))) (now (x .field)) (c .before .before .before .before .before .before .before .inspect-field .ensures) (c .before .before .before .before .before .enum-told .given .1) .0 in
-    omega (arith, c .before .before .before .before .nodes .ensures .0, fit .grids-fit .1 .1 .1 .0)
+slice-relend-prefix-solve-field-4 c = rooms (c .before .before .before .before) .1 .1 .1 .0
 
 slice-aggregate-solve-field-4 : tie.Need-slice-aggregate-solve-field-4
 slice-aggregate-solve-field-4 c =
-    let x = c .before .before .before .before .before .before .before .before .before .before .before .before .before .before .before .before .before .before .before .before .args in
-    let fit = field-ready (now (x .points)) (x .settings) (fieldLengths (now (x .s0)) (now (x .s1)) (now (x .s2)) (now (x .s3)) (now (x .s4)) (now (x .s5)) (now (x .s6)) (now (x .edges)) (now (x .distances))) (now (x .field)) (c .before .before .before .before .before .before .before .before .inspect-field .ensures) (c .before .before .before .before .before .before .enum-told .given .1) .0 in
-    sym (length-take-le (c .before .before .before .before .before .nodes .result) (now (x .s3)) (omega (arith, c .before .before .before .before .before .nodes .ensures .0, fit .grids-fit .1 .1 .1 .0)))
+    let d = c .before .before .before .before .before in sym (length-take-le (d .nodes .result) (now (passed (d .before) .args .s3)) (rooms d .1 .1 .1 .0))
 
 slice-relend-prefix-solve-field-5 : tie.Need-slice-relend-prefix-solve-field-5
-slice-relend-prefix-solve-field-5 c =
-    let x = c .before .before .before .before .before .before .before .before .before .before .before .before .before .before .before .before .before .before .before .before .args in
-    let fit = field-ready (now (x .points)) (x .settings) (fieldLengths (now (x .s0)) (now (x .s1)) (now (x .s2)) (now (x .s3)) (now (x .s4)) (now (x .s5)) (now (x .s6)) (now (x .edges)) (now (x .distances))) (now (x .field)) (c .before .before .before .before .before .before .before .before .inspect-field .ensures) (c .before .before .before .before .before .before .enum-told .given .1) .0 in
-    omega (arith, c .before .before .before .before .before .nodes .ensures .0, fit .grids-fit .1 .1 .1 .1 .0)
+slice-relend-prefix-solve-field-5 c = rooms (c .before .before .before .before .before) .1 .1 .1 .1 .0
 
 slice-aggregate-solve-field-5 : tie.Need-slice-aggregate-solve-field-5
 slice-aggregate-solve-field-5 c =
-    let x = c .before .before .before .before .before .before .before .before .before .before .before .before .before .before .before .before .before .before .before .before .before .args in
-    let fit = field-ready (now (x .points)) (x .settings) (fieldLengths (now (x .s0)) (now (x .s1)) (now (x .s2)) (now (x .s3)) (now (x .s4)) (now (x .s5)) (now (x .s6)) (now (x .edges)) (now (x .distances))) (now (x .field)) (c .before .before .before .before .before .before .before .before .before .inspect-field .ensures) (c .before .before .before .before .before .before .before .enum-told .given .1) .0 in
-    sym (length-take-le (c .before .before .before .before .before .before .nodes .result) (now (x .s4)) (omega (arith, c .before .before .before .before .before .before .nodes .ensures .0, fit .grids-fit .1 .1 .1 .1 .0)))
+    let d = c .before .before .before .before .before .before in sym (length-take-le (d .nodes .result) (now (passed (d .before) .args .s4)) (rooms d .1 .1 .1 .1 .0))
 
 slice-relend-prefix-solve-field-6 : tie.Need-slice-relend-prefix-solve-field-6
-slice-relend-prefix-solve-field-6 c =
-    let x = c .before .before .before .before .before .before .before .before .before .before .before .before .before .before .before .before .before .before .before .before .before .args in
-    let fit = field-ready (now (x .points)) (x .settings) (fieldLengths (now (x .s0)) (now (x .s1)) (now (x .s2)) (now (x .s3)) (now (x .s4)) (now (x .s5)) (now (x .s6)) (now (x .edges)) (now (x .distances))) (now (x .field)) (c .before .before .before .before .before .before .before .before .before .inspect-field .ensures) (c .before .before .before .before .before .before .before .enum-told .given .1) .0 in
-    omega (arith, c .before .before .before .before .before .before .nodes .ensures .0, fit .grids-fit .1 .1 .1 .1 .1 .0)
+slice-relend-prefix-solve-field-6 c = rooms (c .before .before .before .before .before .before) .1 .1 .1 .1 .1 .0
 
 slice-aggregate-solve-field-6 : tie.Need-slice-aggregate-solve-field-6
 slice-aggregate-solve-field-6 c =
-    let x = c .before .before .before .before .before .before .before .before .before .before .before .before .before .before .before .before .before .before .before .before .before .before .args in
-    let fit = field-ready (now (x .points)) (x .settings) (fieldLengths (now (x .s0)) (now (x .s1)) (now (x .s2)) (now (x .s3)) (now (x .s4)) (now (x .s5)) (now (x .s6)) (now (x .edges)) (now (x .distances))) (now (x .field)) (c .before .before .before .before .before .before .before .before .before .before .inspect-field .ensures) (c .before .before .before .before .before .before .before .before .enum-told .given .1) .0 in
-    sym (length-take-le (c .before .before .before .before .before .before .before .nodes .result) (now (x .s5)) (omega (arith, c .before .before .before .before .before .before .before .nodes .ensures .0, fit .grids-fit .1 .1 .1 .1 .1 .0)))
+    let d = c .before .before .before .before .before .before .before in sym (length-take-le (d .nodes .result) (now (passed (d .before) .args .s5)) (rooms d .1 .1 .1 .1 .1 .0))
 
 slice-relend-prefix-solve-field-7 : tie.Need-slice-relend-prefix-solve-field-7
-slice-relend-prefix-solve-field-7 c =
-    let x = c .before .before .before .before .before .before .before .before .before .before .before .before .before .before .before .before .before .before .before .before .before .before .args in
-    let fit = field-ready (now (x .points)) (x .settings) (fieldLengths (now (x .s0)) (now (x .s1)) (now (x .s2)) (now (x .s3)) (now (x .s4)) (now (x .s5)) (now (x .s6)) (now (x .edges)) (now (x .distances))) (now (x .field)) (c .before .before .before .before .before .before .before .before .before .before .inspect-field .ensures) (c .before .before .before .before .before .before .before .before .enum-told .given .1) .0 in
-    omega (arith, c .before .before .before .before .before .before .before .nodes .ensures .0, fit .grids-fit .1 .1 .1 .1 .1 .1 .0)
+slice-relend-prefix-solve-field-7 c = rooms (c .before .before .before .before .before .before .before) .1 .1 .1 .1 .1 .1 .0
 
 slice-aggregate-solve-field-7 : tie.Need-slice-aggregate-solve-field-7
 slice-aggregate-solve-field-7 c =
-    let x = c .before .before .before .before .before .before .before .before .before .before .before .before .before .before .before .before .before .before .before .before .before .before .before .args in
-    let fit = field-ready (now (x .points)) (x .settings) (fieldLengths (now (x .s0)) (now (x .s1)) (now (x .s2)) (now (x .s3)) (now (x .s4)) (now (x .s5)) (now (x .s6)) (now (x .edges)) (now (x .distances))) (now (x .field)) (c .before .before .before .before .before .before .before .before .before .before .before .inspect-field .ensures) (c .before .before .before .before .before .before .before .before .before .enum-told .given .1) .0 in
-    sym (length-take-le (c .before .before .before .before .before .before .before .before .nodes .result) (now (x .s6)) (omega (arith, c .before .before .before .before .before .before .before .before .nodes .ensures .0, fit .grids-fit .1 .1 .1 .1 .1 .1 .0)))
+    let d = c .before .before .before .before .before .before .before .before in sym (length-take-le (d .nodes .result) (now (passed (d .before) .args .s6)) (rooms d .1 .1 .1 .1 .1 .1 .0))
 
 solve-field-requires : tie.Need-solve-field-requires
 solve-field-requires c κs =
-    let x = c .before .before .before .before .before .before .before .before .before .before .before .before .before .before .before .before .before .before .before .before .before .before .before .before .args in
-    let passed = field-ready (now (x .points)) (x .settings) (fieldLengths (now (x .s0)) (now (x .s1)) (now (x .s2)) (now (x .s3)) (now (x .s4)) (now (x .s5)) (now (x .s6)) (now (x .edges)) (now (x .distances))) (now (x .field)) (c .before .before .before .before .before .before .before .before .before .before .before .before .inspect-field .ensures) (c .before .before .before .before .before .before .before .before .before .before .enum-told .given .1) in
-    let fit = passed .0 in
-    let n = c .before .before .before .before .before .before .before .before .before .nodes .result in
-    let eight = c .before .before .before .before .before .before .before .before .before .nodes .ensures .0 in
+    let d = c .before .before .before .before .before .before .before .before .before in
+    let x = passed (d .before) .args in
+    let fit = ready (d .before) .0 in
+    let n = d .nodes .result in
+    let eight = d .nodes .ensures .0 in
     record {
       deep = fit .deep;
       shallow = fit .shallow;
       few = fit .few;
-      room = passed .1;
+      room = ready (d .before) .1;
       scratch = record {
-        size0 = length-take-le n (now (x .s0)) (omega (arith, eight, fit .grids-fit .0)) ∙ eight;
-        size1 = length-take-le n (now (x .s1)) (omega (arith, eight, fit .grids-fit .1 .0)) ∙ eight;
-        size2 = length-take-le n (now (x .s2)) (omega (arith, eight, fit .grids-fit .1 .1 .0)) ∙ eight;
-        size3 = length-take-le n (now (x .s3)) (omega (arith, eight, fit .grids-fit .1 .1 .1 .0)) ∙ eight;
-        size4 = length-take-le n (now (x .s4)) (omega (arith, eight, fit .grids-fit .1 .1 .1 .1 .0)) ∙ eight;
-        size5 = length-take-le n (now (x .s5)) (omega (arith, eight, fit .grids-fit .1 .1 .1 .1 .1 .0)) ∙ eight;
-        size6 = length-take-le n (now (x .s6)) (omega (arith, eight, fit .grids-fit .1 .1 .1 .1 .1 .1 .0)) ∙ eight;
+        size0 = length-take-le n (now (x .s0)) (rooms d .0) ∙ eight;
+        size1 = length-take-le n (now (x .s1)) (rooms d .1 .0) ∙ eight;
+        size2 = length-take-le n (now (x .s2)) (rooms d .1 .1 .0) ∙ eight;
+        size3 = length-take-le n (now (x .s3)) (rooms d .1 .1 .1 .0) ∙ eight;
+        size4 = length-take-le n (now (x .s4)) (rooms d .1 .1 .1 .1 .0) ∙ eight;
+        size5 = length-take-le n (now (x .s5)) (rooms d .1 .1 .1 .1 .1 .0) ∙ eight;
+        size6 = length-take-le n (now (x .s6)) (rooms d .1 .1 .1 .1 .1 .1 .0) ∙ eight;
         enough = fit .distances-fit;
       };
     }
@@ -172,9 +169,10 @@ same-length-10 c = search needs
 
 returns-2 : tie.Need-returns-2
 returns-2 c =
-    let x = c .before .before .before .before .before .before .before .before .before .before .before .before .before .before .before .before .before .before .before .before .before .before .before .before .before .before .before .before .before .before .before .before .before .before .before .before .before .before .before .before .before .before .before .args in
     let done = c .before .before .before .before .before .before .before .before .before .before .before .before .before .before .before .before .before .before .solve-field in
-    field-passed (now (x .points)) (x .settings) (fieldLengths (now (x .s0)) (now (x .s1)) (now (x .s2)) (now (x .s3)) (now (x .s4)) (now (x .s5)) (now (x .s6)) (now (x .edges)) (now (x .distances))) (now (x .field)) (c .before .before .before .before .before .before .before .before .before .before .before .before .before .before .before .before .before .before .before .before .before .before .before .before .before .before .before .before .before .before .before .inspect-field .ensures) (done .result) _ (c .before .before .before .before .before .before .before .before .before .before .before .before .before .before .before .before .before .before .before .before .before .before .before .before .before .before .before .before .before .enum-told .given .1) (done .ensures .0) (done .ensures .1)
+    let t = c .before .before .before .before .before .before .before .before .before .before .before .before .before .before .before .before .before .before .before .before .before .before .before .before .before .before .before .before .before in
+    let s = passed t in
+    field-passed (now (s .args .points)) (s .args .settings) (lent s) (now (s .args .field)) (inspected t .inspect-field .ensures) (done .result) _ (t .enum-told .given .1) (done .ensures .0) (done .ensures .1)
 
 pub attempt-field-spec : {M : Type 1} → statement M
 attempt-field-spec =

@@ -5,6 +5,16 @@ use borrow.Author.Needs.{needs}
 use Rattle.alone.proofs.poisson_field.Statement.{statement}
 use Rattle.alone.proofs.poisson_field.Tie as tie
 
+-- ---- the places: each seen from one further on
+
+abbrev after-clear-scratch : tie.After-slice-known28 → tie.After-clear-scratch
+after-clear-scratch c = c .before .before .before .before .before .before .before .before .before .before .before .before .before .before .before .before .before .before
+
+abbrev after-attempt-field : tie.After-clear-scratch → tie.After-attempt-field
+after-attempt-field c = c .before .before .before .before .before .before .before .before .before .before .before .before .before .before .before .before .before .before .before .before .before .before .before .before .before .before .before .before
+
+-- ---- the needs
+
 attempt-field-requires : tie.Need-attempt-field-requires
 attempt-field-requires c κs = search needs
 
@@ -12,39 +22,39 @@ clear-scratch-requires : tie.Need-clear-scratch-requires
 clear-scratch-requires c κs = search needs
 
 same-length : tie.Need-same-length
-same-length c = c .before .before .before .before .before .before .before .before .before .before .before .before .before .before .before .before .before .before .before .before .before .before .before .before .before .before .before .before .before .before .before .before .before .before .before .before .before .before .before .before .before .before .before .before .before .before .attempt-field .kept .1 .1 .0
+same-length c = after-attempt-field (after-clear-scratch c) .attempt-field .kept .1 .1 .0
 
 same-length-2 : tie.Need-same-length-2
-same-length-2 c = c .before .before .before .before .before .before .before .before .before .before .before .before .before .before .before .before .before .before .clear-scratch .kept .0 ∙ c .before .before .before .before .before .before .before .before .before .before .before .before .before .before .before .before .before .before .before .before .before .before .before .before .before .before .before .before .before .before .before .before .before .before .before .before .before .before .before .before .before .before .before .before .before .before .attempt-field .kept .1 .1 .1 .0
+same-length-2 c = after-clear-scratch c .clear-scratch .kept .0 ∙ after-attempt-field (after-clear-scratch c) .attempt-field .kept .1 .1 .1 .0
 
 same-length-3 : tie.Need-same-length-3
-same-length-3 c = c .before .before .before .before .before .before .before .before .before .before .before .before .before .before .before .before .before .before .clear-scratch .kept .1 .0 ∙ c .before .before .before .before .before .before .before .before .before .before .before .before .before .before .before .before .before .before .before .before .before .before .before .before .before .before .before .before .before .before .before .before .before .before .before .before .before .before .before .before .before .before .before .before .before .before .attempt-field .kept .1 .1 .1 .1 .0
+same-length-3 c = after-clear-scratch c .clear-scratch .kept .1 .0 ∙ after-attempt-field (after-clear-scratch c) .attempt-field .kept .1 .1 .1 .1 .0
 
 same-length-4 : tie.Need-same-length-4
-same-length-4 c = c .before .before .before .before .before .before .before .before .before .before .before .before .before .before .before .before .before .before .clear-scratch .kept .1 .1 .0 ∙ c .before .before .before .before .before .before .before .before .before .before .before .before .before .before .before .before .before .before .before .before .before .before .before .before .before .before .before .before .before .before .before .before .before .before .before .before .before .before .before .before .before .before .before .before .before .before .attempt-field .kept .1 .1 .1 .1 .1 .0
+same-length-4 c = after-clear-scratch c .clear-scratch .kept .1 .1 .0 ∙ after-attempt-field (after-clear-scratch c) .attempt-field .kept .1 .1 .1 .1 .1 .0
 
 same-length-5 : tie.Need-same-length-5
-same-length-5 c = c .before .before .before .before .before .before .before .before .before .before .before .before .before .before .before .before .before .before .clear-scratch .kept .1 .1 .1 .0 ∙ c .before .before .before .before .before .before .before .before .before .before .before .before .before .before .before .before .before .before .before .before .before .before .before .before .before .before .before .before .before .before .before .before .before .before .before .before .before .before .before .before .before .before .before .before .before .before .attempt-field .kept .1 .1 .1 .1 .1 .1 .0
+same-length-5 c = after-clear-scratch c .clear-scratch .kept .1 .1 .1 .0 ∙ after-attempt-field (after-clear-scratch c) .attempt-field .kept .1 .1 .1 .1 .1 .1 .0
 
 same-length-6 : tie.Need-same-length-6
-same-length-6 c = c .before .before .before .before .before .before .before .before .before .before .before .before .before .before .before .before .before .before .clear-scratch .kept .1 .1 .1 .1 .0 ∙ c .before .before .before .before .before .before .before .before .before .before .before .before .before .before .before .before .before .before .before .before .before .before .before .before .before .before .before .before .before .before .before .before .before .before .before .before .before .before .before .before .before .before .before .before .before .before .attempt-field .kept .1 .1 .1 .1 .1 .1 .1 .0
+same-length-6 c = after-clear-scratch c .clear-scratch .kept .1 .1 .1 .1 .0 ∙ after-attempt-field (after-clear-scratch c) .attempt-field .kept .1 .1 .1 .1 .1 .1 .1 .0
 
 same-length-7 : tie.Need-same-length-7
-same-length-7 c = c .before .before .before .before .before .before .before .before .before .before .before .before .before .before .before .before .before .before .clear-scratch .kept .1 .1 .1 .1 .1 .0 ∙ c .before .before .before .before .before .before .before .before .before .before .before .before .before .before .before .before .before .before .before .before .before .before .before .before .before .before .before .before .before .before .before .before .before .before .before .before .before .before .before .before .before .before .before .before .before .before .attempt-field .kept .1 .1 .1 .1 .1 .1 .1 .1 .0
+same-length-7 c = after-clear-scratch c .clear-scratch .kept .1 .1 .1 .1 .1 .0 ∙ after-attempt-field (after-clear-scratch c) .attempt-field .kept .1 .1 .1 .1 .1 .1 .1 .1 .0
 
 same-length-8 : tie.Need-same-length-8
-same-length-8 c = c .before .before .before .before .before .before .before .before .before .before .before .before .before .before .before .before .before .before .clear-scratch .kept .1 .1 .1 .1 .1 .1 .0 ∙ c .before .before .before .before .before .before .before .before .before .before .before .before .before .before .before .before .before .before .before .before .before .before .before .before .before .before .before .before .before .before .before .before .before .before .before .before .before .before .before .before .before .before .before .before .before .before .attempt-field .kept .1 .1 .1 .1 .1 .1 .1 .1 .1 .0
+same-length-8 c = after-clear-scratch c .clear-scratch .kept .1 .1 .1 .1 .1 .1 .0 ∙ after-attempt-field (after-clear-scratch c) .attempt-field .kept .1 .1 .1 .1 .1 .1 .1 .1 .1 .0
 
 same-length-9 : tie.Need-same-length-9
-same-length-9 c = c .before .before .before .before .before .before .before .before .before .before .before .before .before .before .before .before .before .before .clear-scratch .kept .1 .1 .1 .1 .1 .1 .1 .0
+same-length-9 c = after-clear-scratch c .clear-scratch .kept .1 .1 .1 .1 .1 .1 .1 .0
 
 same-length-10 : tie.Need-same-length-10
-same-length-10 c = c .before .before .before .before .before .before .before .before .before .before .before .before .before .before .before .before .before .before .clear-scratch .kept .1 .1 .1 .1 .1 .1 .1 .1 .0 ∙ c .before .before .before .before .before .before .before .before .before .before .before .before .before .before .before .before .before .before .before .before .before .before .before .before .before .before .before .before .before .before .before .before .before .before .before .before .before .before .before .before .before .before .before .before .before .before .attempt-field .kept .1 .1 .1 .1 .1 .1 .1 .1 .1 .1 .1 .0
+same-length-10 c = after-clear-scratch c .clear-scratch .kept .1 .1 .1 .1 .1 .1 .1 .1 .0 ∙ after-attempt-field (after-clear-scratch c) .attempt-field .kept .1 .1 .1 .1 .1 .1 .1 .1 .1 .1 .1 .0
 
 returns : tie.Need-returns
 returns c =
-    let made = c .before .before .before .before .before .before .before .before .before .before .before .before .before .before .before .before .before .before .before .before .before .before .before .before .before .before .before .before .before .before .before .before .before .before .before .before .before .before .before .before .before .before .before .before .before .before .attempt-field in
-    let told = c .before .before .before .before .before .before .before .before .before .before .before .before .before .before .before .before .before .before .clear-scratch .ensures in
+    let made = after-attempt-field (after-clear-scratch c) .attempt-field in
+    let told = after-clear-scratch c .clear-scratch .ensures in
     record {
       answered = made .ensures .answered;
       values = made .ensures .values;

@@ -9,6 +9,19 @@ use borrow.Author.Needs.{needs}
 use Rattle.poisson.proofs.poisson_reconstruction_default.Statement.{statement}
 use Rattle.poisson.proofs.poisson_reconstruction_default.Tie as tie
 
+-- ---- the places: each seen from one further on
+
+abbrev after-poisson-reconstruction : tie.After-slice-known22 → tie.After-poisson-reconstruction
+after-poisson-reconstruction c = c .before .before .before .before .before .before .before .before .before .before .before .before .before .before .before .before .before .before .before .before .before .before
+
+abbrev after-new : tie.After-poisson-reconstruction → tie.After-new
+after-new c = c .before .before .before .before .before .before .before .before .before .before .before .before
+
+abbrev entry : tie.After-new → tie.Start
+entry c = c .before .before .before .before .before .before .before .before .before .before .before .before .before
+
+-- ---- the needs
+
 new-requires : tie.Need-new-requires
 new-requires c κs = search needs
 
@@ -50,8 +63,8 @@ same-length-11 c = search needs
 
 returns : tie.Need-returns
 returns c =
-    let x = c .before .before .before .before .before .before .before .before .before .before .before .before .before .before .before .before .before .before .before .before .before .before .before .before .before .before .before .before .before .before .before .before .before .before .before .before .before .before .before .before .before .before .before .before .before .before .before .args in
-    carry (ap (λ (st : Settings). reconstructed (now (x .points)) st (lengthsOf (now (x .vertices)) (now (x .faces)) (now (x .s0)) (now (x .s1)) (now (x .s2)) (now (x .s3)) (now (x .s4)) (now (x .s5)) (now (x .s6)) (now (x .edges)) (now (x .distances)))) (c .before .before .before .before .before .before .before .before .before .before .before .before .before .before .before .before .before .before .before .before .before .before .before .before .before .before .before .before .before .before .before .before .before .before .new .ensures)) (c .before .before .before .before .before .before .before .before .before .before .before .before .before .before .before .before .before .before .before .before .before .before .poisson-reconstruction .ensures)
+    let x = entry (after-new (after-poisson-reconstruction c)) .args in
+    carry (ap (λ (st : Settings). reconstructed (now (x .points)) st (lengthsOf (now (x .vertices)) (now (x .faces)) (now (x .s0)) (now (x .s1)) (now (x .s2)) (now (x .s3)) (now (x .s4)) (now (x .s5)) (now (x .s6)) (now (x .edges)) (now (x .distances)))) (after-new (after-poisson-reconstruction c) .new .ensures)) (after-poisson-reconstruction c .poisson-reconstruction .ensures)
 
 pub poisson-reconstruction-default-spec : {M : Type 1} → statement M
 poisson-reconstruction-default-spec =
