@@ -10,7 +10,8 @@ use Rattle.lists.specs.Lists.{tabulate, at}
 use Rattle.lists.specs.Tabulate.{length-tabulate, at-tabulate}
 use Rattle.lists.specs.Fill.{Filled, filled-none, filled-more, filled-now, filled-done}
 use Rattle.grid.specs.declared.Grid.{Grid}
-use Rattle.solver.specs.Solver.{allNodes, zero64, dotted, plusAt, minusAt}
+use Rattle.laplacian.specs.Laplacian.{allNodes}
+use Rattle.solver.specs.Solver.{zero64, dotted, plusAt, minusAt}
 use Rattle.solver.specs.Dotted.{Summed, summed-none, summed-more, summed-done}
 use Rattle.solver.specs.Inner.{Advanced}
 use Rattle.solver.proofs.Steps.{of-size}

@@ -9,7 +9,8 @@ use Rattle.lists.specs.Lists.{tabulate, at}
 use Rattle.lists.specs.Tabulate.{at-tabulate, tabulate-ext}
 use Rattle.numbers.specs.Arithmetic.{narrowed}
 use Rattle.grid.specs.declared.Grid.{Grid}
-use Rattle.solver.specs.Solver.{allNodes, applied, dotted, zero64, plusAt, minusAt, State, papOf, stops, alphaOf, next, steps}
+use Rattle.laplacian.specs.Laplacian.{allNodes, applied}
+use Rattle.solver.specs.Solver.{dotted, zero64, plusAt, minusAt, State, papOf, stops, alphaOf, next, steps}
 use Rattle.solver.specs.NanThrough.{add-nan, sub-nan, nan-mul, nan-div, nan-narrowed, nan-rooted, nan-le}
 use Rattle.solver.specs.Dotted.{dotted-nan}
 

@@ -11,7 +11,8 @@ use Rattle.lists.specs.Lists.{tabulate}
 use Rattle.numbers.specs.Arithmetic.{rooted, narrowed}
 use Rattle.grid.specs.declared.Grid.{Grid}
 use Rattle.grid.specs.Grid.{Sides}
-use Rattle.solver.specs.Solver.{allNodes, applied, dotted, zero64, plusAt, minusAt, lessAt, State, started, papOf, stops, alphaOf, next, steps, normOf, conjugate}
+use Rattle.laplacian.specs.Laplacian.{allNodes, applied}
+use Rattle.solver.specs.Solver.{dotted, zero64, plusAt, minusAt, lessAt, State, started, papOf, stops, alphaOf, next, steps, normOf, conjugate}
 use Rattle.solver.specs.Inner.{Updated}
 use Rattle.solver.proofs.NanRun.{nan-next, nan-steps}
 

@@ -11,7 +11,8 @@ use lib.ListN.{length}
 use lib.Ieee.{Float, nan, binary64, add, mul}
 use Rattle.lists.specs.Lists.{at}
 use Rattle.grid.specs.declared.Grid.{Grid}
-use Rattle.solver.specs.Solver.{allNodes, zero64, dotTo, dotted}
+use Rattle.laplacian.specs.Laplacian.{allNodes}
+use Rattle.solver.specs.Solver.{zero64, dotTo, dotted}
 use Rattle.solver.specs.NanThrough.{nan-add, add-nan, nan-mul}
 
 -- ---- a loop's start, its turn and its end: s is the sum of the first i products

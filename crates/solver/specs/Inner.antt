@@ -1,22 +1,19 @@
--- Words for this crate's contracts: how long the slices are and what they are left with, one element of a row, what a step and a turn leave. Only `Sized` and `Left` stand in a contract that callers see, and
+-- Words for this crate's contracts: how long the slices are and what they are left with, what a step and a turn leave. Only `Sized` and `Left` stand in a contract that callers see, and
 -- no definition rests on any of them. Assumes nothing.
 use mathlib.Core.Path.{_≡_}
-use mathlib.Core.Bool.{false, cond}
+use mathlib.Core.Bool.{false}
 use mathlib.Core.List.{List}
-use Prim.Native.Nat.{ℕ, suc, _+_}
+use Prim.Native.Nat.{ℕ, suc}
 use lib.ListN.{length}
 use lib.Ieee.{Float, binary64, div}
-use Rattle.lists.specs.Lists.{tabulate, zero32, zeros32}
+use Rattle.lists.specs.Lists.{tabulate, zeros32}
 use Rattle.numbers.specs.Arithmetic.{narrowed}
 use Rattle.grid.specs.declared.Grid.{Grid}
-use Rattle.grid.specs.Grid.{Sides, atEnd}
+use Rattle.grid.specs.Grid.{Sides}
 use Rattle.solver.specs.declared.gradients.Turn.{Turn}
 use Rattle.solver.specs.declared.gradients.Turn.the-variants.{Done, On}
-use Rattle.solver.specs.Solver.{allNodes, stencilAt, dotted, plusAt, minusAt, State, stops, next, steps}
-
--- the element k of a row of n nodes, the first of which is `first`, where the row is not on the boundary
-unfoldable pub innerRowAt : (plane n : ℕ) (x : List Float) (first k : ℕ) → Float
-innerRowAt plane n x first k = cond (atEnd n k) zero32 (stencilAt plane n x (first + k))
+use Rattle.laplacian.specs.Laplacian.{allNodes}
+use Rattle.solver.specs.Solver.{dotted, plusAt, minusAt, State, stops, next, steps}
 
 -- the slices have one element a node
 pub record Sized (g : Grid) (x r p ap : List Float) : Type 0 where

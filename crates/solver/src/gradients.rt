@@ -2,9 +2,9 @@
 ghost use mathlib.Core.Path.{_≡_};
 ghost use lib.ListN.{length};
 ghost use denote.Ref.{now};
-ghost use Rattle.solver.specs.Solver.{allNodes, started, steps, conjugate};
+ghost use Rattle.laplacian.specs.Laplacian.{allNodes};
+ghost use Rattle.solver.specs.Solver.{started, steps, conjugate};
 ghost use Rattle.solver.specs.Inner.{Sized, Left, Updated, Turned};
-use crate::laplacian::apply;
 use crate::vectors::advance;
 use crate::vectors::copy;
 use crate::vectors::dot;
@@ -12,6 +12,7 @@ use crate::vectors::less;
 use crate::vectors::squares;
 use crate::vectors::xpay;
 use grid::Grid;
+use laplacian::apply;
 
 // What a turn answers: that no later turn changes x, or to go on with this rr.
 pub enum Turn {

@@ -2,7 +2,8 @@
 ghost use mathlib.Core.Path.{_≡_};
 ghost use lib.ListN.{length};
 ghost use Rattle.lists.specs.Lists.{tabulate};
-ghost use Rattle.solver.specs.Solver.{allNodes, dotted, plusAt, lessAt};
+ghost use Rattle.laplacian.specs.Laplacian.{allNodes};
+ghost use Rattle.solver.specs.Solver.{dotted, plusAt, lessAt};
 ghost use Rattle.solver.specs.Inner.{Sized, Advanced};
 use grid::Grid;
 

@@ -16,8 +16,8 @@ use Rattle.lists.specs.Fill.{Filled, filled-none, filled-done}
 use Rattle.lists.specs.Part.{length-part, filled-part}
 use Rattle.grid.specs.Grid.{Sides, atEnd, boundaryNode, boundaryRow}
 use Rattle.grid.specs.Rows.{row-of, row-next, last-end, boundary-row}
-use Rattle.solver.specs.Solver.{stencilAt, applyAt}
-use Rattle.solver.specs.Inner.{innerRowAt}
+use Rattle.laplacian.specs.Laplacian.{stencilAt, applyAt}
+use Rattle.laplacian.specs.Inner.{innerRowAt}
 
 module _ (n : ℕ) (x : List Float) where
   apply-at : (q : ℕ) (b : Bool) → boundaryNode n q ≡ b → cond b zero32 (stencilAt (n * n) n x q) ≡ applyAt n x q

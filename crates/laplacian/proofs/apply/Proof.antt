@@ -1,11 +1,11 @@
--- `solver::apply` meets its contract: the first plane, those between and the last are the whole (`planes-are`). Assumes nothing.
+-- `laplacian::apply` meets its contract: the first plane, those between and the last are the whole (`planes-are`). Assumes nothing.
 use denote.Ref.{now}
 use native.Mathlib.Omega.{arith}
 use Rattle.grid.specs.Rows.{square-most, cube-most}
-use Rattle.solver.proofs.ApplyRows.{planes, between-size, planes-are}
+use Rattle.laplacian.proofs.ApplyRows.{planes, between-size, planes-are}
 use borrow.Author.Needs.{needs}
-use Rattle.solver.proofs.laplacian.apply.Statement.{statement}
-use Rattle.solver.proofs.laplacian.apply.Tie as tie
+use Rattle.laplacian.proofs.apply.Statement.{statement}
+use Rattle.laplacian.proofs.apply.Tie as tie
 
 mul-plane : tie.Need-mul-plane
 mul-plane c = let s = c .before .before in omega (arith, planes (s .pre .0), s .pre .1, square-most (s .pre .0 .most), cube-most (s .pre .0 .most))

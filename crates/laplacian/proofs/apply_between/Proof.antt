@@ -1,4 +1,4 @@
--- `solver::apply_between` meets its contract: after r turns the r rows after the first plane are written. Assumes nothing.
+-- `laplacian::apply_between` meets its contract: after r turns the r rows after the first plane are written. Assumes nothing.
 use mathlib.Core.Path.{_≡_, ap}
 use Prim.Native.Nat.{ℕ, _+_, _-_, _*_, _≤_}
 use native.Mathlib.Nat.{zero-mul}
@@ -7,10 +7,10 @@ use native.Mathlib.Omega.{arith}
 use Rattle.lists.specs.Fill.{Filled, filled-none, filled-done}
 use Rattle.lists.specs.Part.{length-part}
 use Rattle.grid.specs.Rows.{row-end, square-most}
-use Rattle.solver.specs.Solver.{applyAt}
-use Rattle.solver.proofs.ApplyRows.{between-more, between-most, between-row}
-use Rattle.solver.proofs.laplacian.apply_between.Statement.{statement}
-use Rattle.solver.proofs.laplacian.apply_between.Tie as tie
+use Rattle.laplacian.specs.Laplacian.{applyAt}
+use Rattle.laplacian.proofs.ApplyRows.{between-more, between-most, between-row}
+use Rattle.laplacian.proofs.apply_between.Statement.{statement}
+use Rattle.laplacian.proofs.apply_between.Tie as tie
 
 abbrev Inv-loop : tie.InvT-loop
 Inv-loop g x y₀ n rows r₀ y r = Filled (λ k. applyAt n x (n * n + k)) y₀ y (r * n) × (r ≤ rows)

@@ -1,4 +1,4 @@
--- `solver::inner_row` meets its contract: after k turns `y` is the row with its first k elements written, k being 1 or more. Assumes nothing.
+-- `laplacian::inner_row` meets its contract: after k turns `y` is the row with its first k elements written, k being 1 or more. Assumes nothing.
 use mathlib.Core.Path.{_≡_, _∙_}
 use Prim.Native.Nat.{_-_, _≤_, _<_}
 use native.Mathlib.Omega.{arith}
@@ -6,11 +6,11 @@ use lib.ListN.{length, length-set}
 use denote.Ref.{now}
 use Rattle.lists.specs.Lists.{zero32}
 use Rattle.lists.specs.Fill.{Filled}
-use Rattle.solver.specs.Inner.{innerRowAt}
-use Rattle.solver.proofs.InnerRow.{row-start, row-more, row-done}
+use Rattle.laplacian.specs.Inner.{innerRowAt}
+use Rattle.laplacian.proofs.InnerRow.{row-start, row-more, row-done}
 use borrow.Author.Needs.{needs}
-use Rattle.solver.proofs.laplacian.inner_row.Statement.{statement}
-use Rattle.solver.proofs.laplacian.inner_row.Tie as tie
+use Rattle.laplacian.proofs.inner_row.Statement.{statement}
+use Rattle.laplacian.proofs.inner_row.Tie as tie
 
 abbrev Inv-loop : tie.InvT-loop
 Inv-loop x y₀ plane n q k₀ y k = Filled (innerRowAt plane n x q) y₀ y k × (length y₀ ≡ n) × (1 ≤ k) × (k < n)

@@ -11,8 +11,8 @@ use Rattle.lists.specs.Lists.{tabulate, zero32}
 use Rattle.lists.specs.Fill.{Filled, filled-none, filled-more, filled-done}
 use Rattle.grid.specs.Grid.{atEnd}
 use Rattle.grid.specs.Rows.{last-end, no-end}
-use Rattle.solver.specs.Solver.{stencilAt}
-use Rattle.solver.specs.Inner.{innerRowAt}
+use Rattle.laplacian.specs.Laplacian.{stencilAt}
+use Rattle.laplacian.specs.Inner.{innerRowAt}
 
 module _ (plane n : ℕ) (x : List Float) (first : ℕ) where
   row-at : (k : ℕ) (b : Bool) → atEnd n k ≡ b → cond b zero32 (stencilAt plane n x (first + k)) ≡ innerRowAt plane n x first k

@@ -1,12 +1,12 @@
-// A x = 6x minus six neighbours, and 0 on the boundary: the Rust's `apply`. The Rust tests every node; here whole rows are on the boundary or not, and of a row that is
-// not only the two ends are, so that the loop along it has no test.
+// Document 01, "Solver", its A x, beside `apply` of the Rust's poisson.rs: 6x minus six neighbours, and 0 on the boundary. The Rust tests every node; here whole rows are
+// on the boundary or not, and of a row that is not only the two ends are, so that the loop along it has no test.
 ghost use mathlib.Core.Path.{_≡_};
 ghost use Prim.Native.Nat.{_+_, _-_, _*_, _≤_, _<_};
 ghost use lib.ListN.{length};
 ghost use Rattle.lists.specs.Lists.{tabulate};
 ghost use Rattle.grid.specs.Grid.{Sides};
-ghost use Rattle.solver.specs.Solver.{allNodes, stencilAt, applyAt, applied};
-ghost use Rattle.solver.specs.Inner.{innerRowAt};
+ghost use Rattle.laplacian.specs.Laplacian.{allNodes, stencilAt, applyAt, applied};
+ghost use Rattle.laplacian.specs.Inner.{innerRowAt};
 use grid::Grid;
 use grid::Node;
 

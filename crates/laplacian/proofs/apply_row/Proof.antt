@@ -1,13 +1,13 @@
--- `solver::apply_row` meets its contract: a row on the boundary is zeros, and any other has a plane of nodes before it and one after it. Assumes nothing.
+-- `laplacian::apply_row` meets its contract: a row on the boundary is zeros, and any other has a plane of nodes before it and one after it. Assumes nothing.
 use mathlib.Core.Path.{sym, _∙_}
 use Prim.Native.Nat.{_<_}
 use denote.Ref.{now}
 use native.Mathlib.Omega.{arith}
 use Rattle.grid.specs.Rows.{row-end, square-most, cube-most, row-plane, inner-row}
-use Rattle.solver.proofs.ApplyRows.{boundary-row-is, inner-row-is}
+use Rattle.laplacian.proofs.ApplyRows.{boundary-row-is, inner-row-is}
 use borrow.Author.Needs.{needs}
-use Rattle.solver.proofs.laplacian.apply_row.Statement.{statement}
-use Rattle.solver.proofs.laplacian.apply_row.Tie as tie
+use Rattle.laplacian.proofs.apply_row.Statement.{statement}
+use Rattle.laplacian.proofs.apply_row.Tie as tie
 
 boundary-row-requires : tie.Need-boundary-row-requires
 boundary-row-requires c κs = search needs

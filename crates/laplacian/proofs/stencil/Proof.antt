@@ -1,7 +1,7 @@
--- `solver::stencil` meets its contract: each index is the node's place, more or less a stride. Assumes nothing.
+-- `laplacian::stencil` meets its contract: each index is the node's place, more or less a stride. Assumes nothing.
 use borrow.Author.Needs.{needs}
-use Rattle.solver.proofs.laplacian.stencil.Statement.{statement}
-use Rattle.solver.proofs.laplacian.stencil.Tie as tie
+use Rattle.laplacian.proofs.stencil.Statement.{statement}
+use Rattle.laplacian.proofs.stencil.Tie as tie
 
 place-requires : tie.Need-place-requires
 place-requires c κs = search needs
