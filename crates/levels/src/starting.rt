@@ -45,6 +45,6 @@ pub fn start_front(coarse: Grid, g: Grid, before: &mut [f32], x: &mut [f32])
 {
     let n = coarse.len();
     let m = g.len();
-    solver::copy(&mut before[..n], &x[..n]);
+    vectors::copy(&mut before[..n], &x[..n]);
     start(coarse, g, &before[..n], &mut x[..m]);
 }

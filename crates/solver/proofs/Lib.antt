@@ -1,4 +1,3 @@
 -- Laws that no one function owns.
 pub mod NanRun
 pub mod Steps
-pub mod Advancing

@@ -1,37 +1,14 @@
--- Document 01, "Solver", in its order, for one level: the dot product, and conjugate gradients with their two stops and their cap.
--- Values at the nodes are f32 and sums over them f64. A x is in Laplacian of the crate `laplacian`, the levels in Levels of the crate `levels`. Definitions only; assumes nothing.
+-- Document 01, "Solver", in its order, for one level: conjugate gradients with their two stops and their cap. A x is in Laplacian of the crate `laplacian`, the dot product and
+-- the sums over all nodes in Vectors of the crate `vectors`, the levels in Levels of the crate `levels`. Definitions only; assumes nothing.
 use mathlib.Core.Bool.{Bool, _||_, cond}
 use mathlib.Core.List.{List}
 use Prim.Native.Nat.{ℕ, zero, suc}
-use lib.Ieee.{Float, binary32, binary64, ofBits, add, sub, mul, div, le, eq}
-use Rattle.lists.specs.Lists.{tabulate, at}
+use lib.Ieee.{Float, binary64, mul, div, le, eq}
+use Rattle.lists.specs.Lists.{tabulate}
 use Rattle.numbers.specs.Arithmetic.{rooted, narrowed}
 use Rattle.grid.specs.declared.Grid.{Grid}
 use Rattle.laplacian.specs.Laplacian.{allNodes, applied}
-
--- ---- the dot product: f64, index order, from +0.0
-
-abbrev pub zero64 : Float
-zero64 = ofBits binary64 0
-
--- the first k products. An f32 is the same number at f64, so the terms are multiplied as they are
-unfoldable pub dotTo : (a b : List Float) (k : ℕ) → Float
-dotTo a b zero = zero64
-dotTo a b (suc k) = add binary64 (dotTo a b k) (mul binary64 (at a k) (at b k))
-
-unfoldable pub dotted : (g : Grid) (a b : List Float) → Float
-dotted g a b = dotTo a b (allNodes g)
-
--- ---- sums over all nodes, in f32: a + c·b, a - c·b and a - b
-
-abbrev pub plusAt : (c : Float) (a b : List Float) (k : ℕ) → Float
-plusAt c a b k = add binary32 (at a k) (mul binary32 c (at b k))
-
-abbrev pub minusAt : (c : Float) (a b : List Float) (k : ℕ) → Float
-minusAt c a b k = sub binary32 (at a k) (mul binary32 c (at b k))
-
-abbrev pub lessAt : (a b : List Float) (k : ℕ) → Float
-lessAt a b k = sub binary32 (at a k) (at b k)
+use Rattle.vectors.specs.Vectors.{zero64, dotted, plusAt, minusAt, lessAt}
 
 -- ---- conjugate gradients: the solution so far, the residual, the direction, and rr = r·r
 

@@ -1,11 +1,11 @@
--- `solver::squares` meets its contract: after i turns `s` is the sum of the first i squares. Assumes nothing.
+-- `vectors::squares` meets its contract: after i turns `s` is the sum of the first i squares. Assumes nothing.
 use Prim.Native.Nat.{_-_}
 use native.Mathlib.Omega.{arith}
 use lib.ListN.{length}
-use Rattle.solver.specs.Dotted.{Summed, summed-none, summed-more, summed-done}
+use Rattle.vectors.specs.Dotted.{Summed, summed-none, summed-more, summed-done}
 use borrow.Author.Needs.{needs}
-use Rattle.solver.proofs.vectors.squares.Statement.{statement}
-use Rattle.solver.proofs.vectors.squares.Tie as tie
+use Rattle.vectors.proofs.squares.Statement.{statement}
+use Rattle.vectors.proofs.squares.Tie as tie
 
 abbrev Inv-loop : tie.InvT-loop
 Inv-loop a s₀ i₀ s i = Summed a a s i

@@ -12,8 +12,8 @@ use lib.Ieee.{Float, nan, binary64, add, mul}
 use Rattle.lists.specs.Lists.{at}
 use Rattle.grid.specs.declared.Grid.{Grid}
 use Rattle.laplacian.specs.Laplacian.{allNodes}
-use Rattle.solver.specs.Solver.{zero64, dotTo, dotted}
-use Rattle.solver.specs.NanThrough.{nan-add, add-nan, nan-mul}
+use Rattle.vectors.specs.Vectors.{zero64, dotTo, dotted}
+use Rattle.vectors.specs.NanThrough.{nan-add, add-nan, nan-mul}
 
 -- ---- a loop's start, its turn and its end: s is the sum of the first i products
 

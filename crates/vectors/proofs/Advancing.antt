@@ -11,10 +11,10 @@ use Rattle.lists.specs.Tabulate.{length-tabulate, at-tabulate}
 use Rattle.lists.specs.Fill.{Filled, filled-none, filled-more, filled-now, filled-done}
 use Rattle.grid.specs.declared.Grid.{Grid}
 use Rattle.laplacian.specs.Laplacian.{allNodes}
-use Rattle.solver.specs.Solver.{zero64, dotted, plusAt, minusAt}
-use Rattle.solver.specs.Dotted.{Summed, summed-none, summed-more, summed-done}
-use Rattle.solver.specs.Inner.{Advanced}
-use Rattle.solver.proofs.Steps.{of-size}
+use Rattle.vectors.specs.Vectors.{zero64, dotted, plusAt, minusAt}
+use Rattle.vectors.specs.Dotted.{Summed, summed-none, summed-more, summed-done}
+use Rattle.vectors.specs.Slices.{Advanced}
+use Rattle.vectors.specs.OfSize.{of-size}
 
 module _ (alpha : Float) (x₀ r₀ p ap' : List Float) where
   abbrev newR : List Float

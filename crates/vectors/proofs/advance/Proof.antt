@@ -1,12 +1,12 @@
--- `solver::advance` meets its contract: after i turns x and r are written, and the squares summed, up to there (Advancing). Assumes nothing.
+-- `vectors::advance` meets its contract: after i turns x and r are written, and the squares summed, up to there (Advancing). Assumes nothing.
 use Prim.Native.Nat.{_-_}
 use native.Mathlib.Omega.{arith}
 use lib.ListN.{length}
 use denote.Ref.{now}
-use Rattle.solver.proofs.Advancing.{Advancing, advancing-none, advancing-more, advancing-done}
+use Rattle.vectors.proofs.Advancing.{Advancing, advancing-none, advancing-more, advancing-done}
 use borrow.Author.Needs.{needs}
-use Rattle.solver.proofs.vectors.advance.Statement.{statement}
-use Rattle.solver.proofs.vectors.advance.Tie as tie
+use Rattle.vectors.proofs.advance.Statement.{statement}
+use Rattle.vectors.proofs.advance.Tie as tie
 
 abbrev Inv-loop : tie.InvT-loop
 Inv-loop x₀ r₀ p ap alpha s₀ i₀ x r s i = Advancing alpha x₀ r₀ p ap x r s i

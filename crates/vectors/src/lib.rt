@@ -1,10 +1,11 @@
-// Whole slices, one element a node: the dot product and the updates of a step. Each is one plain loop, which becomes vector code.
+// Document 01, "Solver", its dot product and the updates of a step, beside `dot` of the Rust's poisson.rs and the updates inside its `conjugate_gradient`: whole slices, one
+// element a node. Each is one plain loop, which becomes vector code.
 ghost use mathlib.Core.Path.{_≡_};
 ghost use lib.ListN.{length};
 ghost use Rattle.lists.specs.Lists.{tabulate};
 ghost use Rattle.laplacian.specs.Laplacian.{allNodes};
-ghost use Rattle.solver.specs.Solver.{dotted, plusAt, lessAt};
-ghost use Rattle.solver.specs.Inner.{Sized, Advanced};
+ghost use Rattle.vectors.specs.Vectors.{dotted, plusAt, lessAt};
+ghost use Rattle.vectors.specs.Slices.{Sized, Advanced};
 use grid::Grid;
 
 // The dot product: f64, index order, from +0.0. The Rust's `dot` sums in any order.

@@ -1,12 +1,12 @@
--- `solver::less` meets its contract: after i turns `r` is what came with the differences of the first i nodes written. Assumes nothing.
+-- `vectors::less` meets its contract: after i turns `r` is what came with the differences of the first i nodes written. Assumes nothing.
 use mathlib.Core.Path.{refl}
 use Prim.Native.Nat.{_-_}
 use native.Mathlib.Omega.{arith}
 use lib.ListN.{length}
 use Rattle.lists.specs.Fill.{Filled, filled-none, filled-more, filled-done}
-use Rattle.solver.specs.Solver.{lessAt}
-use Rattle.solver.proofs.vectors.less.Statement.{statement}
-use Rattle.solver.proofs.vectors.less.Tie as tie
+use Rattle.vectors.specs.Vectors.{lessAt}
+use Rattle.vectors.proofs.less.Statement.{statement}
+use Rattle.vectors.proofs.less.Tie as tie
 
 abbrev Inv-loop : tie.InvT-loop
 Inv-loop r₀ b ax i₀ r i = Filled (lessAt b ax) r₀ r i

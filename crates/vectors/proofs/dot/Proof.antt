@@ -1,11 +1,11 @@
--- `solver::dot` meets its contract: after i turns `s` is the sum of the first i products. Assumes nothing.
+-- `vectors::dot` meets its contract: after i turns `s` is the sum of the first i products. Assumes nothing.
 use Prim.Native.Nat.{_-_}
 use native.Mathlib.Omega.{arith}
 use lib.ListN.{length}
-use Rattle.solver.specs.Dotted.{Summed, summed-none, summed-more, summed-done}
+use Rattle.vectors.specs.Dotted.{Summed, summed-none, summed-more, summed-done}
 use borrow.Author.Needs.{needs}
-use Rattle.solver.proofs.vectors.dot.Statement.{statement}
-use Rattle.solver.proofs.vectors.dot.Tie as tie
+use Rattle.vectors.proofs.dot.Statement.{statement}
+use Rattle.vectors.proofs.dot.Tie as tie
 
 abbrev Inv-loop : tie.InvT-loop
 Inv-loop a b s₀ i₀ s i = Summed a b s i
