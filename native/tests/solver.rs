@@ -1,4 +1,4 @@
-//! The exported functions of `field`, `solver` and `levels`, by bits, against the Rust source's own text (the oracle's).
+//! The exported functions of `blur`, `laplacian`, `solver` and `levels`, by bits, against the Rust source's own text (the oracle's).
 use native::{brute, solver, stored32, Patterns};
 use oracle::{loops, PoissonConfig};
 

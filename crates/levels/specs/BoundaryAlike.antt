@@ -19,7 +19,7 @@ use Rattle.grid.specs.Rows.{first-end, last-end, boundary-node}
 use Rattle.points.specs.declared.point.Point.{Point}
 use Rattle.field.specs.Field.{rightSide}
 use Rattle.field.specs.BoundaryZero.{right-side-boundary}
-use Rattle.solver.specs.Solver.{allNodes}
+use Rattle.laplacian.specs.Laplacian.{allNodes}
 use Rattle.solver.specs.Boundary.{BoundaryIs, Alike}
 use Rattle.solver.specs.BoundaryAlike.{conjugate-alike}
 use Rattle.levels.specs.declared.Problem.{Problem}

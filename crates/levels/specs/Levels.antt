@@ -10,7 +10,8 @@ use Rattle.grid.specs.declared.Grid.{Grid}
 use Rattle.grid.specs.Grid.{gridOf, boundaryNode, coordsOf, sampled, worldOf}
 use Rattle.points.specs.declared.point.Point.{Point}
 use Rattle.field.specs.Field.{rightSide}
-use Rattle.solver.specs.Solver.{allNodes, conjugate}
+use Rattle.laplacian.specs.Laplacian.{allNodes}
+use Rattle.solver.specs.Solver.{conjugate}
 use Rattle.levels.specs.declared.Problem.{Problem}
 
 -- ---- the grids

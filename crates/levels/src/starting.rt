@@ -3,7 +3,7 @@ ghost use mathlib.Core.Path.{_≡_};
 ghost use Prim.Native.Nat.{_<_, _≤_};
 ghost use lib.ListN.{length, take};
 ghost use Rattle.grid.specs.Grid.{Sides};
-ghost use Rattle.solver.specs.Solver.{allNodes};
+ghost use Rattle.laplacian.specs.Laplacian.{allNodes};
 ghost use Rattle.levels.specs.Levels.{startAt, startFrom};
 use grid::Grid;
 use grid::Node;
@@ -45,6 +45,6 @@ pub fn start_front(coarse: Grid, g: Grid, before: &mut [f32], x: &mut [f32])
 {
     let n = coarse.len();
     let m = g.len();
-    solver::copy(&mut before[..n], &x[..n]);
+    vectors::copy(&mut before[..n], &x[..n]);
     start(coarse, g, &before[..n], &mut x[..m]);
 }

@@ -11,14 +11,13 @@ use Rattle.lists.specs.Lists.{tabulate}
 use Rattle.numbers.specs.Arithmetic.{rooted, narrowed}
 use Rattle.grid.specs.declared.Grid.{Grid}
 use Rattle.grid.specs.Grid.{Sides}
-use Rattle.solver.specs.Solver.{allNodes, applied, dotted, zero64, plusAt, minusAt, lessAt, State, started, papOf, stops, alphaOf, next, steps, normOf, conjugate}
+use Rattle.laplacian.specs.Laplacian.{allNodes, applied}
+use Rattle.vectors.specs.Vectors.{dotted, zero64, plusAt, minusAt, lessAt}
+use Rattle.solver.specs.Solver.{State, started, papOf, stops, alphaOf, next, steps, normOf, conjugate}
 use Rattle.solver.specs.Inner.{Updated}
 use Rattle.solver.proofs.NanRun.{nan-next, nan-steps}
 
--- ---- lists of one element a node, and that there is a node
-
-pub of-size : {m n : ℕ} (f : ℕ → Float) {z : List Float} → z ≡ tabulate m f → m ≡ n → z ≡ tabulate n f
-of-size f e h = e ∙ ap (λ (k : ℕ). tabulate k f) h
+-- ---- that there is a node
 
 pub some-node : (g : Grid) → Sides (g .nodes) → 0 < allNodes g
 some-node g sides =

@@ -8,7 +8,7 @@ use lib.Ieee.{Float, nan}
 use Rattle.lists.specs.Lists.{at, zero32}
 use Rattle.grid.specs.declared.Grid.{Grid}
 use Rattle.grid.specs.Grid.{boundaryNode}
-use Rattle.solver.specs.Solver.{allNodes}
+use Rattle.laplacian.specs.Laplacian.{allNodes}
 
 -- every boundary node has the value v
 abbrev pub BoundaryIs : (g : Grid) (x : List Float) (v : Float) → Type 0

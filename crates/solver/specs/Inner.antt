@@ -1,45 +1,28 @@
--- Words for this crate's contracts: how long the slices are and what they are left with, one element of a row, what a step and a turn leave. Only `Sized` and `Left` stand in a contract that callers see, and
+-- Words for this crate's contracts: what the slices are left with, what a step and a turn leave. Only `Left` stands in a contract that callers see, beside `Sized` of the crate `vectors`, and
 -- no definition rests on any of them. Assumes nothing.
 use mathlib.Core.Path.{_≡_}
-use mathlib.Core.Bool.{false, cond}
+use mathlib.Core.Bool.{false}
 use mathlib.Core.List.{List}
-use Prim.Native.Nat.{ℕ, suc, _+_}
-use lib.ListN.{length}
+use Prim.Native.Nat.{ℕ, suc}
 use lib.Ieee.{Float, binary64, div}
-use Rattle.lists.specs.Lists.{tabulate, zero32, zeros32}
+use Rattle.lists.specs.Lists.{tabulate, zeros32}
 use Rattle.numbers.specs.Arithmetic.{narrowed}
 use Rattle.grid.specs.declared.Grid.{Grid}
-use Rattle.grid.specs.Grid.{Sides, atEnd}
+use Rattle.laplacian.specs.Laplacian.{allNodes}
+use Rattle.vectors.specs.Vectors.{plusAt}
+use Rattle.vectors.specs.Slices.{Advanced}
 use Rattle.solver.specs.declared.gradients.Turn.{Turn}
 use Rattle.solver.specs.declared.gradients.Turn.the-variants.{Done, On}
-use Rattle.solver.specs.Solver.{allNodes, stencilAt, dotted, plusAt, minusAt, State, stops, next, steps}
+use Rattle.solver.specs.Solver.{State, stops, next, steps}
 
--- the element k of a row of n nodes, the first of which is `first`, where the row is not on the boundary
-unfoldable pub innerRowAt : (plane n : ℕ) (x : List Float) (first k : ℕ) → Float
-innerRowAt plane n x first k = cond (atEnd n k) zero32 (stencilAt plane n x (first + k))
-
--- the slices have one element a node
-pub record Sized (g : Grid) (x r p ap : List Float) : Type 0 where
-  pub sides : Sides (g .nodes)
-  pub of-x : length x ≡ allNodes g
-  pub of-r : length r ≡ allNodes g
-  pub of-p : length p ≡ allNodes g
-  pub of-ap : length ap ≡ allNodes g
-
--- and at exit: x is the solution, the other three are zeros
+-- at exit: x is the solution, the other three are zeros
 pub record Left (g : Grid) (solution x r p ap : List Float) : Type 0 where
   pub of-x : x ≡ solution
   pub of-r : r ≡ zeros32 (allNodes g)
   pub of-p : p ≡ zeros32 (allNodes g)
   pub of-ap : ap ≡ zeros32 (allNodes g)
 
--- the first half of a step by alpha: what it leaves as x' and r', and the rr' that it answers
-pub record Advanced (g : Grid) (alpha : Float) (x r p ap x' r' : List Float) (rr' : Float) : Type 0 where
-  pub of-x : x' ≡ tabulate (allNodes g) (plusAt alpha x p)
-  pub of-r : r' ≡ tabulate (allNodes g) (minusAt alpha r ap)
-  pub of-rr : rr' ≡ dotted g r' r'
-
--- the whole step: p' too
+-- a whole step by alpha: its first half, and p' too
 pub record Updated (g : Grid) (alpha rr : Float) (x r p ap x' r' p' : List Float) (rr' : Float) : Type 0 where
   pub advanced : Advanced g alpha x r p ap x' r' rr'
   pub of-p : p' ≡ tabulate (allNodes g) (plusAt (narrowed (div binary64 rr' rr)) r' p)

@@ -1,7 +1,5 @@
 -- Document 01's Solver up to one level: the definitions, then what is proved of them.
 pub mod Solver
 pub mod Inner
-pub mod NanThrough
-pub mod Dotted
 pub mod Boundary
 pub mod BoundaryAlike

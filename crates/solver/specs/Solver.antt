@@ -1,63 +1,14 @@
--- Document 01, "Solver", in its order, for one level: A x, the dot product, and conjugate gradients with their two stops and their cap.
--- Values at the nodes are f32 and sums over them f64. The levels are in Levels of the crate `levels`. Definitions only; assumes nothing.
+-- Document 01, "Solver", in its order, for one level: conjugate gradients with their two stops and their cap. A x is in Laplacian of the crate `laplacian`, the dot product and
+-- the sums over all nodes in Vectors of the crate `vectors`, the levels in Levels of the crate `levels`. Definitions only; assumes nothing.
 use mathlib.Core.Bool.{Bool, _||_, cond}
 use mathlib.Core.List.{List}
-use Prim.Native.Nat.{ℕ, zero, suc, _+_, _-_, _*_}
-use lib.Ieee.{Float, binary32, binary64, ofBits, add, sub, mul, div, le, eq}
-use Rattle.lists.specs.Lists.{tabulate, at, zero32}
+use Prim.Native.Nat.{ℕ, zero, suc}
+use lib.Ieee.{Float, binary64, mul, div, le, eq}
+use Rattle.lists.specs.Lists.{tabulate}
 use Rattle.numbers.specs.Arithmetic.{rooted, narrowed}
 use Rattle.grid.specs.declared.Grid.{Grid}
-use Rattle.grid.specs.Grid.{boundaryNode}
-
--- N, the number of nodes
-abbrev pub allNodes : Grid → ℕ
-allNodes g = g .nodes * g .nodes * g .nodes
-
--- ---- A x = 6x minus six neighbours, subtracted -x,+x,-y,+y,-z,+z; 0 on the boundary
-
-abbrev pub six32 : Float
-six32 = ofBits binary32 0x40C0_0000
-
--- at node q, whose neighbours along x, y and z are plane, row and 1 numbers away
-abbrev pub stencilAt : (plane row : ℕ) (x : List Float) (q : ℕ) → Float
-stencilAt plane row x q =
-    sub binary32
-    (sub binary32
-    (sub binary32
-    (sub binary32 (sub binary32 (sub binary32 (mul binary32 six32 (at x q)) (at x (q - plane))) (at x (q + plane))) (at x (q - row)))
-    (at x (q + row)))
-    (at x (q - 1)))
-    (at x (q + 1))
-
-unfoldable pub applyAt : (n : ℕ) (x : List Float) (q : ℕ) → Float
-applyAt n x q = cond (boundaryNode n q) zero32 (stencilAt (n * n) n x q)
-
-abbrev pub applied : (g : Grid) (x : List Float) → List Float
-applied g x = tabulate (allNodes g) (applyAt (g .nodes) x)
-
--- ---- the dot product: f64, index order, from +0.0
-
-abbrev pub zero64 : Float
-zero64 = ofBits binary64 0
-
--- the first k products. An f32 is the same number at f64, so the terms are multiplied as they are
-unfoldable pub dotTo : (a b : List Float) (k : ℕ) → Float
-dotTo a b zero = zero64
-dotTo a b (suc k) = add binary64 (dotTo a b k) (mul binary64 (at a k) (at b k))
-
-unfoldable pub dotted : (g : Grid) (a b : List Float) → Float
-dotted g a b = dotTo a b (allNodes g)
-
--- ---- sums over all nodes, in f32: a + c·b, a - c·b and a - b
-
-abbrev pub plusAt : (c : Float) (a b : List Float) (k : ℕ) → Float
-plusAt c a b k = add binary32 (at a k) (mul binary32 c (at b k))
-
-abbrev pub minusAt : (c : Float) (a b : List Float) (k : ℕ) → Float
-minusAt c a b k = sub binary32 (at a k) (mul binary32 c (at b k))
-
-abbrev pub lessAt : (a b : List Float) (k : ℕ) → Float
-lessAt a b k = sub binary32 (at a k) (at b k)
+use Rattle.laplacian.specs.Laplacian.{allNodes, applied}
+use Rattle.vectors.specs.Vectors.{zero64, dotted, plusAt, minusAt, lessAt}
 
 -- ---- conjugate gradients: the solution so far, the residual, the direction, and rr = r·r
 

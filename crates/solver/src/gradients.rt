@@ -2,16 +2,18 @@
 ghost use mathlib.Core.Path.{_≡_};
 ghost use lib.ListN.{length};
 ghost use denote.Ref.{now};
-ghost use Rattle.solver.specs.Solver.{allNodes, started, steps, conjugate};
-ghost use Rattle.solver.specs.Inner.{Sized, Left, Updated, Turned};
-use crate::laplacian::apply;
-use crate::vectors::advance;
-use crate::vectors::copy;
-use crate::vectors::dot;
-use crate::vectors::less;
-use crate::vectors::squares;
-use crate::vectors::xpay;
+ghost use Rattle.laplacian.specs.Laplacian.{allNodes};
+ghost use Rattle.solver.specs.Solver.{started, steps, conjugate};
+ghost use Rattle.vectors.specs.Slices.{Sized};
+ghost use Rattle.solver.specs.Inner.{Left, Updated, Turned};
 use grid::Grid;
+use laplacian::apply;
+use vectors::advance;
+use vectors::copy;
+use vectors::dot;
+use vectors::less;
+use vectors::squares;
+use vectors::xpay;
 
 // What a turn answers: that no later turn changes x, or to go on with this rr.
 pub enum Turn {

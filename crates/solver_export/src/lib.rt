@@ -1,4 +1,4 @@
-// Functions of `blur`, `solver` and `levels` for C and Rust to call, so that they can be tested and timed on any processor. Each is that of its crate, and its contract
+// Functions of `blur`, `laplacian`, `solver` and `levels` for C and Rust to call, so that they can be tested and timed on any processor. Each is that of its crate, and its contract
 // too. The caller keeps what a `requires` asks: lengths that fit. Nothing checks it at the boundary.
 ghost use mathlib.Core.Path.{_≡_};
 ghost use mathlib.Core.List.{[], _∷_};
@@ -8,7 +8,8 @@ ghost use Rattle.lists.specs.Lists.{tabulate};
 ghost use Rattle.grid.specs.Grid.{Sides};
 ghost use Rattle.points.specs.Points.{usables};
 ghost use Rattle.blur.specs.Blur.{offsetsOf, blurredAlong};
-ghost use Rattle.solver.specs.Solver.{applyAt, conjugate};
+ghost use Rattle.laplacian.specs.Laplacian.{applyAt};
+ghost use Rattle.solver.specs.Solver.{conjugate};
 ghost use Rattle.solver.specs.Inner as level;
 ghost use Rattle.levels.specs.Levels.{nodesAt, solution};
 ghost use Rattle.levels.specs.Slices.{Sized, Left};
@@ -51,7 +52,7 @@ pub extern "C" fn hoardmagpie_apply(x: &[f32], y: &mut [f32], nodes: usize)
         origin: [0.0, 0.0, 0.0],
         step: 0.0,
     };
-    solver::apply(g, x, y);
+    laplacian::apply(g, x, y);
 }
 
 // The solution of A x = b from x on, in at most `cap` steps.

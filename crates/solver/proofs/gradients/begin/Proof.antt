@@ -1,6 +1,7 @@
 -- `solver::begin` meets its contract: what its four stages say is the start (`start-is`). Assumes nothing.
 use denote.Ref.{now}
-use Rattle.solver.proofs.Steps.{of-size, start-is}
+use Rattle.vectors.specs.OfSize.{of-size}
+use Rattle.solver.proofs.Steps.{start-is}
 use borrow.Author.Needs.{needs}
 use Rattle.solver.proofs.gradients.begin.Statement.{statement}
 use Rattle.solver.proofs.gradients.begin.Tie as tie

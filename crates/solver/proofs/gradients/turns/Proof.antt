@@ -3,7 +3,7 @@ use mathlib.Core.Path.{_≡_, sym, ap, _∙_}
 use Prim.Native.Nat.{_-_, _≤_}
 use native.Mathlib.Omega.{arith}
 use Rattle.solver.specs.Solver.{State, steps}
-use Rattle.solver.specs.Inner.{Sized}
+use Rattle.vectors.specs.Slices.{Sized}
 use Rattle.solver.proofs.Steps.{turns-done, turns-on, turns-end}
 use borrow.Author.Needs.{needs}
 use Rattle.solver.proofs.gradients.turns.Statement.{statement}

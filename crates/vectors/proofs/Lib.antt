@@ -1,0 +1,2 @@
+-- A law that no one function owns.
+pub mod Advancing

@@ -1,0 +1,31 @@
+-- Document 01, "Solver", its dot product, and the sums over all nodes that a step makes. Values at the nodes are f32 and sums over them f64. Definitions only; assumes nothing.
+use mathlib.Core.List.{List}
+use Prim.Native.Nat.{ℕ, zero, suc}
+use lib.Ieee.{Float, binary32, binary64, ofBits, add, sub, mul}
+use Rattle.lists.specs.Lists.{at}
+use Rattle.grid.specs.declared.Grid.{Grid}
+use Rattle.laplacian.specs.Laplacian.{allNodes}
+
+-- ---- the dot product: f64, index order, from +0.0
+
+abbrev pub zero64 : Float
+zero64 = ofBits binary64 0
+
+-- the first k products. An f32 is the same number at f64, so the terms are multiplied as they are
+unfoldable pub dotTo : (a b : List Float) (k : ℕ) → Float
+dotTo a b zero = zero64
+dotTo a b (suc k) = add binary64 (dotTo a b k) (mul binary64 (at a k) (at b k))
+
+unfoldable pub dotted : (g : Grid) (a b : List Float) → Float
+dotted g a b = dotTo a b (allNodes g)
+
+-- ---- sums over all nodes, in f32: a + c·b, a - c·b and a - b
+
+abbrev pub plusAt : (c : Float) (a b : List Float) (k : ℕ) → Float
+plusAt c a b k = add binary32 (at a k) (mul binary32 c (at b k))
+
+abbrev pub minusAt : (c : Float) (a b : List Float) (k : ℕ) → Float
+minusAt c a b k = sub binary32 (at a k) (mul binary32 c (at b k))
+
+abbrev pub lessAt : (a b : List Float) (k : ℕ) → Float
+lessAt a b k = sub binary32 (at a k) (at b k)
