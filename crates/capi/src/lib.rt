@@ -6,7 +6,7 @@ ghost use Rattle.settings.specs.Settings.{defaults};
 ghost use Rattle.scan.specs.Reconstruction.{reconstructed};
 ghost use Rattle.scan.specs.FieldAlone.{fieldResults};
 ghost use Rattle.alone.specs.Outcome.{fieldLengths};
-ghost use Rattle.poisson.specs.Outcome.{lengthsOf};
+ghost use Rattle.settings.specs.Refusals.{lengthsOf};
 ghost use Rattle.capi.specs.Flat.{trimmingFrom, settingsFrom, countsOf, valuesOf, Told, FieldTold, defaultWords, defaultValues, defaultTolerance};
 use settings::Answer;
 use settings::Settings;

@@ -26,6 +26,10 @@ pub record Sides (n : ℕ) : Type 0 where
   pub two : 2 ≤ n
   pub most : n ≤ 256
 
+-- N, the number of nodes
+abbrev pub allNodes : Grid → ℕ
+allNodes g = g .nodes * g .nodes * g .nodes
+
 -- ---- numbers and positions, for nx × ny × nz nodes
 
 -- the position lies among the nodes

@@ -6,11 +6,7 @@ use Prim.Native.Nat.{ℕ, _+_, _-_, _*_}
 use lib.Ieee.{Float, binary32, ofBits, sub, mul}
 use Rattle.lists.specs.Lists.{tabulate, at, zero32}
 use Rattle.grid.specs.declared.Grid.{Grid}
-use Rattle.grid.specs.Grid.{boundaryNode}
-
--- N, the number of nodes
-abbrev pub allNodes : Grid → ℕ
-allNodes g = g .nodes * g .nodes * g .nodes
+use Rattle.grid.specs.Grid.{allNodes, boundaryNode}
 
 -- ---- A x = 6x minus six neighbours, subtracted -x,+x,-y,+y,-z,+z; 0 on the boundary
 

@@ -9,9 +9,8 @@ use lib.Seq.{take-all}
 use lib.Ieee.{Float}
 use Rattle.lists.specs.Lists.{zeros32}
 use Rattle.grid.specs.declared.Grid.{Grid}
-use Rattle.grid.specs.Grid.{gridOf}
+use Rattle.grid.specs.Grid.{gridOf, allNodes}
 use Rattle.points.specs.declared.point.Point.{Point}
-use Rattle.laplacian.specs.Laplacian.{allNodes}
 use Rattle.levels.specs.declared.Problem.{Problem}
 use Rattle.levels.specs.Levels.{coarsest, gridAt, nodesAt, startFrom, levelFrom, risen, solution}
 use Rattle.levels.specs.Slices.{Sized}

@@ -14,12 +14,11 @@ use Rattle.numbers.specs.Arithmetic.{narrowed}
 use Rattle.closed.specs.Grid.{node, Outer}
 use Rattle.closed.specs.Crossings.{node-lt}
 use Rattle.grid.specs.declared.Grid.{Grid}
-use Rattle.grid.specs.Grid.{gridOf, atEnd, onBoundary, coordsOf, sampled, worldOf}
+use Rattle.grid.specs.Grid.{gridOf, atEnd, onBoundary, coordsOf, sampled, worldOf, allNodes}
 use Rattle.grid.specs.Rows.{first-end, last-end, boundary-node}
 use Rattle.points.specs.declared.point.Point.{Point}
 use Rattle.field.specs.Field.{rightSide}
 use Rattle.field.specs.BoundaryZero.{right-side-boundary}
-use Rattle.laplacian.specs.Laplacian.{allNodes}
 use Rattle.solver.specs.Boundary.{BoundaryIs, Alike}
 use Rattle.solver.specs.BoundaryAlike.{conjugate-alike}
 use Rattle.levels.specs.declared.Problem.{Problem}

@@ -7,10 +7,9 @@ use lib.Ieee.{Float}
 use Rattle.lists.specs.Lists.{tabulate, zero32, zeros32}
 use Rattle.numbers.specs.Arithmetic.{narrowed}
 use Rattle.grid.specs.declared.Grid.{Grid}
-use Rattle.grid.specs.Grid.{gridOf, boundaryNode, coordsOf, sampled, worldOf}
+use Rattle.grid.specs.Grid.{gridOf, boundaryNode, coordsOf, sampled, worldOf, allNodes}
 use Rattle.points.specs.declared.point.Point.{Point}
 use Rattle.field.specs.Field.{rightSide}
-use Rattle.laplacian.specs.Laplacian.{allNodes}
 use Rattle.solver.specs.Solver.{conjugate}
 use Rattle.levels.specs.declared.Problem.{Problem}
 

@@ -2,9 +2,8 @@
 ghost use mathlib.Core.Path.{_≡_};
 ghost use Prim.Native.Nat.{_+_, _-_, _≤_, _<_, min};
 ghost use lib.ListN.{length, take};
-ghost use Rattle.grid.specs.Grid.{Sides};
+ghost use Rattle.grid.specs.Grid.{Sides, allNodes};
 ghost use Rattle.points.specs.Points.{usables};
-ghost use Rattle.laplacian.specs.Laplacian.{allNodes};
 ghost use Rattle.levels.specs.Levels.{coarsest, gridAt, nodesAt, startFrom, levelFrom, risen, solution};
 ghost use Rattle.levels.specs.Slices.{Sized};
 use crate::Problem;

@@ -2,8 +2,7 @@
 ghost use mathlib.Core.Path.{_≡_};
 ghost use Prim.Native.Nat.{_<_, _≤_};
 ghost use lib.ListN.{length, take};
-ghost use Rattle.grid.specs.Grid.{Sides};
-ghost use Rattle.laplacian.specs.Laplacian.{allNodes};
+ghost use Rattle.grid.specs.Grid.{Sides, allNodes};
 ghost use Rattle.levels.specs.Levels.{startAt, startFrom};
 use grid::Grid;
 use grid::Node;

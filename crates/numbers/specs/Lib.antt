@@ -13,6 +13,7 @@ pub mod Between
 pub mod Floors
 pub mod StepPoints
 pub mod Commuting
+pub mod NanThrough
 pub mod OppositeKept
 pub mod Binary
 pub mod Squares

@@ -2,26 +2,14 @@
 -- where they are longer than stated (document 01, "What crosses the counter"). What the results are is `reconstructed` of the crate `scan`. Definitions only;
 -- assumes nothing.
 use mathlib.Core.Path.{_≡_}
-use mathlib.Core.List.{List, [], _∷_}
+use mathlib.Core.List.{List}
 use Prim.Native.Nat.{ℕ}
 use lib.ListN.{length}
 use lib.Ieee.{Float}
 use Rattle.lists.specs.Lists.{zero32, padded}
 use Rattle.settings.specs.declared.Answer.{Answer}
-use Rattle.settings.specs.declared.Lengths.{Lengths}
 use Rattle.ending.specs.Ending.{Cleared}
 use Rattle.scan.specs.Reconstruction.{Results}
-
--- how long the lent slices are
-abbrev pub lengthsOf : (vs : List Float) (fs : List ℕ) (s0 s1 s2 s3 s4 s5 s6 : List Float) (edges : List ℕ) (distances : List Float) → Lengths
-lengthsOf vs fs s0 s1 s2 s3 s4 s5 s6 edges distances =
-    record {
-      vertices = length vs;
-      faces = length fs;
-      grids = length s0 ∷ length s1 ∷ length s2 ∷ length s3 ∷ length s4 ∷ length s5 ∷ length s6 ∷ [];
-      edges = length edges;
-      distances = length distances;
-    }
 
 -- a slice is its list before the call, and with a stroke its list after it
 pub record Done (results : Results) (r : Answer) (vs vs′ : List Float) (fs fs′ : List ℕ) (s0 s0′ s1 s1′ s2 s2′ s3 s3′ s4 s4′ s5 s5′ s6 s6′ : List Float) (edges edges′ : List ℕ) (distances distances′ : List Float) : Type 0 where

@@ -9,9 +9,10 @@ use Rattle.lists.specs.Lists.{tabulate, at}
 use Rattle.lists.specs.Tabulate.{at-tabulate, tabulate-ext}
 use Rattle.numbers.specs.Arithmetic.{narrowed}
 use Rattle.grid.specs.declared.Grid.{Grid}
-use Rattle.laplacian.specs.Laplacian.{allNodes, applied}
+use Rattle.grid.specs.Grid.{allNodes}
+use Rattle.laplacian.specs.Laplacian.{applied}
 use Rattle.vectors.specs.Vectors.{dotted, zero64, plusAt, minusAt}
-use Rattle.vectors.specs.NanThrough.{add-nan, sub-nan, nan-mul, nan-div, nan-narrowed, nan-rooted, nan-le}
+use Rattle.numbers.specs.NanThrough.{add-nan, sub-nan, nan-mul, nan-div, nan-narrowed, nan-rooted, nan-le}
 use Rattle.vectors.specs.Dotted.{dotted-nan}
 use Rattle.solver.specs.Solver.{State, papOf, stops, alphaOf, next, steps}
 

@@ -10,8 +10,8 @@ use lib.Ieee.{Float, nan, binary64, div, mul, le, eq}
 use Rattle.lists.specs.Lists.{tabulate}
 use Rattle.numbers.specs.Arithmetic.{rooted, narrowed}
 use Rattle.grid.specs.declared.Grid.{Grid}
-use Rattle.grid.specs.Grid.{Sides}
-use Rattle.laplacian.specs.Laplacian.{allNodes, applied}
+use Rattle.grid.specs.Grid.{Sides, allNodes}
+use Rattle.laplacian.specs.Laplacian.{applied}
 use Rattle.vectors.specs.Vectors.{dotted, zero64, plusAt, minusAt, lessAt}
 use Rattle.solver.specs.Solver.{State, started, papOf, stops, alphaOf, next, steps, normOf, conjugate}
 use Rattle.solver.specs.Inner.{Updated}

@@ -7,8 +7,7 @@ use Prim.Native.Nat.{ℕ, _<_}
 use lib.Ieee.{Float, nan}
 use Rattle.lists.specs.Lists.{at, zero32}
 use Rattle.grid.specs.declared.Grid.{Grid}
-use Rattle.grid.specs.Grid.{boundaryNode}
-use Rattle.laplacian.specs.Laplacian.{allNodes}
+use Rattle.grid.specs.Grid.{boundaryNode, allNodes}
 
 -- every boundary node has the value v
 abbrev pub BoundaryIs : (g : Grid) (x : List Float) (v : Float) → Type 0

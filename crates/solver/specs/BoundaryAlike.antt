@@ -15,9 +15,10 @@ use Rattle.lists.specs.Tabulate.{at-tabulate}
 use Rattle.numbers.specs.Arithmetic.{narrowed}
 use Rattle.numbers.specs.Symmetry.{round-zero}
 use Rattle.grid.specs.declared.Grid.{Grid}
-use Rattle.laplacian.specs.Laplacian.{allNodes, applyAt, applied, stencilAt}
+use Rattle.grid.specs.Grid.{allNodes}
+use Rattle.laplacian.specs.Laplacian.{applyAt, applied, stencilAt}
 use Rattle.vectors.specs.Vectors.{dotted, zero64, plusAt, minusAt, lessAt}
-use Rattle.vectors.specs.NanThrough.{nan-add, add-nan, mul-nan, nan-sub, sub-nan}
+use Rattle.numbers.specs.NanThrough.{nan-add, add-nan, mul-nan, nan-sub, sub-nan}
 use Rattle.solver.specs.Solver.{State, started, stops, alphaOf, next, steps, normOf, conjugate}
 use Rattle.solver.specs.Boundary.{BoundaryIs, ZeroOrNan, Alike}
 

@@ -8,7 +8,7 @@ use lib.Ieee.{Float, binary64, div}
 use Rattle.lists.specs.Lists.{tabulate, zeros32}
 use Rattle.numbers.specs.Arithmetic.{narrowed}
 use Rattle.grid.specs.declared.Grid.{Grid}
-use Rattle.laplacian.specs.Laplacian.{allNodes}
+use Rattle.grid.specs.Grid.{allNodes}
 use Rattle.vectors.specs.Vectors.{plusAt}
 use Rattle.vectors.specs.Slices.{Advanced}
 use Rattle.solver.specs.declared.gradients.Turn.{Turn}

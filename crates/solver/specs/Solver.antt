@@ -7,7 +7,8 @@ use lib.Ieee.{Float, binary64, mul, div, le, eq}
 use Rattle.lists.specs.Lists.{tabulate}
 use Rattle.numbers.specs.Arithmetic.{rooted, narrowed}
 use Rattle.grid.specs.declared.Grid.{Grid}
-use Rattle.laplacian.specs.Laplacian.{allNodes, applied}
+use Rattle.grid.specs.Grid.{allNodes}
+use Rattle.laplacian.specs.Laplacian.{applied}
 use Rattle.vectors.specs.Vectors.{zero64, dotted, plusAt, minusAt, lessAt}
 
 -- ---- conjugate gradients: the solution so far, the residual, the direction, and rr = r·r

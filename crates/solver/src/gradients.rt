@@ -2,7 +2,7 @@
 ghost use mathlib.Core.Path.{_≡_};
 ghost use lib.ListN.{length};
 ghost use denote.Ref.{now};
-ghost use Rattle.laplacian.specs.Laplacian.{allNodes};
+ghost use Rattle.grid.specs.Grid.{allNodes};
 ghost use Rattle.solver.specs.Solver.{started, steps, conjugate};
 ghost use Rattle.vectors.specs.Slices.{Sized};
 ghost use Rattle.solver.specs.Inner.{Left, Updated, Turned};

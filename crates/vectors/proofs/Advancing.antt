@@ -7,14 +7,13 @@ use native.Mathlib.Omega.{arith}
 use lib.ListN.{length, set}
 use lib.Ieee.{Float, nan, binary32, binary64, add, sub, mul}
 use Rattle.lists.specs.Lists.{tabulate, at}
-use Rattle.lists.specs.Tabulate.{length-tabulate, at-tabulate}
+use Rattle.lists.specs.Tabulate.{length-tabulate, at-tabulate, of-size}
 use Rattle.lists.specs.Fill.{Filled, filled-none, filled-more, filled-now, filled-done}
 use Rattle.grid.specs.declared.Grid.{Grid}
-use Rattle.laplacian.specs.Laplacian.{allNodes}
+use Rattle.grid.specs.Grid.{allNodes}
 use Rattle.vectors.specs.Vectors.{zero64, dotted, plusAt, minusAt}
 use Rattle.vectors.specs.Dotted.{Summed, summed-none, summed-more, summed-done}
 use Rattle.vectors.specs.Slices.{Advanced}
-use Rattle.vectors.specs.OfSize.{of-size}
 
 module _ (alpha : Float) (x₀ r₀ p ap' : List Float) where
   abbrev newR : List Float

@@ -5,8 +5,7 @@ use lib.ListN.{length}
 use lib.Ieee.{Float}
 use Rattle.lists.specs.Lists.{tabulate}
 use Rattle.grid.specs.declared.Grid.{Grid}
-use Rattle.grid.specs.Grid.{Sides}
-use Rattle.laplacian.specs.Laplacian.{allNodes}
+use Rattle.grid.specs.Grid.{Sides, allNodes}
 use Rattle.vectors.specs.Vectors.{dotted, plusAt, minusAt}
 
 -- the slices have one element a node

@@ -4,7 +4,7 @@ use Prim.Native.Nat.{ℕ, zero, suc}
 use lib.Ieee.{Float, binary32, binary64, ofBits, add, sub, mul}
 use Rattle.lists.specs.Lists.{at}
 use Rattle.grid.specs.declared.Grid.{Grid}
-use Rattle.laplacian.specs.Laplacian.{allNodes}
+use Rattle.grid.specs.Grid.{allNodes}
 
 -- ---- the dot product: f64, index order, from +0.0
 

@@ -3,7 +3,7 @@
 ghost use mathlib.Core.Path.{_≡_};
 ghost use lib.ListN.{length};
 ghost use Rattle.lists.specs.Lists.{tabulate};
-ghost use Rattle.laplacian.specs.Laplacian.{allNodes};
+ghost use Rattle.grid.specs.Grid.{allNodes};
 ghost use Rattle.vectors.specs.Vectors.{dotted, plusAt, lessAt};
 ghost use Rattle.vectors.specs.Slices.{Sized, Advanced};
 use grid::Grid;

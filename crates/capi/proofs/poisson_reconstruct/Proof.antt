@@ -5,7 +5,7 @@ use Rattle.capi.specs.Flat.{countsOf, valuesOf}
 use denote.Ref.{now}
 use Rattle.settings.specs.declared.Settings.{Settings}
 use Rattle.scan.specs.Reconstruction.{reconstructed}
-use Rattle.poisson.specs.Outcome.{lengthsOf}
+use Rattle.settings.specs.Refusals.{lengthsOf}
 use Rattle.poisson.proofs.Finishing.{carry}
 use borrow.Author.Needs.{needs}
 use Rattle.capi.proofs.poisson_reconstruct.Statement.{statement}

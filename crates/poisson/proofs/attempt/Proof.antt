@@ -8,7 +8,7 @@ use lib.Seq.{length-take-le}
 use denote.Ref.{now}
 use Rattle.settings.specs.declared.Lengths.{Lengths}
 use Rattle.settings.specs.Passed.{Fit, Ready}
-use Rattle.poisson.specs.Outcome.{lengthsOf}
+use Rattle.settings.specs.Refusals.{lengthsOf}
 use Rattle.poisson.proofs.Finishing.{first-refused, first-ready, first-passed}
 use borrow.Author.Needs.{needs}
 use Rattle.poisson.proofs.attempt.Statement.{statement}

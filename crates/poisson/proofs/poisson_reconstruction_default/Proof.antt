@@ -3,7 +3,7 @@ use mathlib.Core.Path.{_≡_, ap}
 use denote.Ref.{now}
 use Rattle.settings.specs.declared.Settings.{Settings}
 use Rattle.scan.specs.Reconstruction.{reconstructed}
-use Rattle.poisson.specs.Outcome.{lengthsOf}
+use Rattle.settings.specs.Refusals.{lengthsOf}
 use Rattle.poisson.proofs.Finishing.{carry}
 use borrow.Author.Needs.{needs}
 use Rattle.poisson.proofs.poisson_reconstruction_default.Statement.{statement}
