@@ -16,10 +16,11 @@ use Rattle.closed.specs.Crossings.{used-crossed, crossed-lt}
 use Rattle.closed.specs.Grid.{gridFaces}
 use Rattle.grid.specs.Grid.{Counts}
 use Rattle.grid.specs.declared.Lattice.{Lattice}
-use Rattle.extract.specs.Extraction.{countX, countY, countZ, below, edgeFaces, vertexEdges}
-use Rattle.extract.specs.Passes.{Marks, markAll, blockFaces, none, Numbered, Counted}
+use Rattle.cells.specs.Extraction.{countX, countY, countZ, below, edgeFaces, vertexEdges}
+use Rattle.cells.specs.CellWords.{blockFaces}
+use Rattle.extract.specs.Passes.{Marks, markAll, none, Numbered, Counted}
 use Rattle.extract.specs.declared.Totals.{Totals}
-use Rattle.extract.proofs.Cells.{block-is-grid}
+use Rattle.cells.specs.Cells.{block-is-grid}
 use Rattle.extract.proofs.Marking.{noted, marked}
 
 zeros-noted : (m : ℕ) → _≡_ {A = Marks} (replicate m 0, 0) (noted m [])

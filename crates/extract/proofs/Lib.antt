@@ -1,9 +1,6 @@
--- The laws that the functions' proofs cite: a cell and its rows, the first pass, then the second.
-pub mod Cells
-pub mod Rows
-pub mod Plain
+-- The laws that the functions' proofs cite: the first pass, then the second.
 pub mod Marking
 pub mod FirstUse
+pub mod Edges
 pub mod Placing
 pub mod FirstPlace
-pub mod Points

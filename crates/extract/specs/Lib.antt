@@ -1,4 +1,3 @@
--- Extraction: the definitions, and the words that the passes' contracts add to them.
+-- Extraction's two passes: what is claimed of the mesh, and the words of the passes' contracts. The definitions are in the crate `cells`.
 pub mod Claims
-pub mod Extraction
 pub mod Passes

@@ -1,11 +1,8 @@
 // Document 01, "Extraction", beside `extract_shared` of marching_cubes.rs, for any Lattice. In two passes, so that a caller can refuse before anything is
 // written: `number_edges` gives each crossed edge its vertex number in a lent table and answers V and F, `write_mesh` writes the vertices and the faces.
-mod cell;
 mod number;
-mod point;
 mod write;
 
-pub use cell::below;
 pub use number::number_edges;
 pub use write::write_mesh;
 

@@ -8,7 +8,7 @@ ghost use mathlib.Core.Path.{_≡_};
 ghost use Prim.Native.Nat.{_*_, _<_, _≤_};
 ghost use lib.ListN.{length};
 ghost use Rattle.grid.specs.Grid.{Counts};
-ghost use Rattle.extract.specs.Extraction.{countX, countY, countZ};
+ghost use Rattle.cells.specs.Extraction.{countX, countY, countZ};
 ghost use Rattle.extract.specs.Passes.{Ready, Counted, Sized};
 use extract::Totals;
 use grid::Lattice;

@@ -9,9 +9,10 @@ use Rattle.closed.specs.Faces.{Face, face, mapFace, corners, faceOf}
 use Rattle.closed.specs.Rows.{emitted}
 use Rattle.closed.specs.Bounds.{emitted-le}
 use Rattle.closed.specs.Turning.{corners-append}
-use Rattle.extract.specs.Passes.{Marks, markAll, EdgesIn}
+use Rattle.cells.specs.CellWords.{EdgesIn}
+use Rattle.extract.specs.Passes.{Marks, markAll}
 use Rattle.extract.proofs.Marking.{marks-append, marks-kept, marks-more}
-use Rattle.extract.proofs.Rows.{firstFaces, one-more, all-faces, cube-face}
+use Rattle.cells.specs.Rows.{firstFaces, one-more, all-faces, cube-face}
 use Rattle.extract.proofs.number.mark_row.Statement.{statement}
 use Rattle.extract.proofs.number.mark_row.Tie as tie
 

@@ -7,7 +7,7 @@ use mir.Facts.{fits-le, fits-lit}
 use Rattle.closed.specs.Bounds.{emitted-le}
 use Rattle.extract.specs.Passes.{Numbered}
 use Rattle.extract.proofs.Marking.{numbered-none}
-use Rattle.extract.proofs.Rows.{none-below, all-below, row-count}
+use Rattle.cells.specs.Rows.{none-below, all-below, row-count}
 use borrow.Author.Needs.{needs}
 use Rattle.extract.proofs.number.number_cell.Statement.{statement}
 use Rattle.extract.proofs.number.number_cell.Tie as tie

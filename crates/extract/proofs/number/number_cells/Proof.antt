@@ -7,10 +7,11 @@ use native.Mathlib.Omega.{arith}
 use lib.ListN.{length}
 use Rattle.closed.specs.Grid.{edge}
 use Rattle.closed.specs.Faces.{Face}
-use Rattle.extract.specs.Passes.{Numbered, Few, sideAt, caseAt, facesAt, lineFaces}
-use Rattle.extract.proofs.Cells.{case-below, side-small, two-sides}
+use Rattle.cells.specs.CellWords.{sideAt, caseAt, facesAt, lineFaces}
+use Rattle.extract.specs.Passes.{Numbered, Few}
+use Rattle.cells.specs.Cells.{case-below, side-small, two-sides}
 use Rattle.extract.proofs.Marking.{numbered-start, numbered-more-cells, numbered-kept, few-next, few-later}
-use Rattle.extract.proofs.Rows.{edges-in, cell-faces, few-cell}
+use Rattle.cells.specs.Rows.{edges-in, cell-faces, few-cell}
 use borrow.Author.Needs.{needs}
 use Rattle.extract.proofs.number.number_cells.Statement.{statement}
 use Rattle.extract.proofs.number.number_cells.Tie as tie

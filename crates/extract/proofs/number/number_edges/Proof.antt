@@ -5,8 +5,9 @@ use mathlib.Core.List.{List}
 use Prim.Native.Nat.{ℕ, _*_, _-_}
 use native.Mathlib.Omega.{arith}
 use lib.ListN.{length, length-replicate}
-use Rattle.extract.specs.Extraction.{countX, countY, countZ}
-use Rattle.extract.specs.Passes.{Numbered, blockFaces, none}
+use Rattle.cells.specs.Extraction.{countX, countY, countZ}
+use Rattle.cells.specs.CellWords.{blockFaces}
+use Rattle.extract.specs.Passes.{Numbered, none}
 use Rattle.extract.proofs.FirstUse.{counted-all}
 use borrow.Author.Needs.{needs}
 use Rattle.extract.proofs.number.number_edges.Statement.{statement}

@@ -5,7 +5,7 @@ use Prim.Native.Nat.{_+_}
 use native.Mathlib.Omega.{arith}
 use Rattle.extract.specs.Passes.{Numbered}
 use Rattle.extract.proofs.Marking.{numbered-none, few-later}
-use Rattle.extract.proofs.Plain.{plain-line}
+use Rattle.cells.specs.Plain.{plain-line}
 use borrow.Author.Needs.{needs}
 use Rattle.extract.proofs.number.number_line.Statement.{statement}
 use Rattle.extract.proofs.number.number_line.Tie as tie
