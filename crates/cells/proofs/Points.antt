@@ -1,6 +1,6 @@
 -- The vertex on an edge as code finds it: the lower node is the edge's, the upper one a stride further, and the counts are small enough to be floats.
 -- Assumes nothing.
-use mathlib.Core.Path.{_≡_, refl, sym, ap, _∙_}
+use mathlib.Core.Path.{_≡_, refl, ap, _∙_}
 use mathlib.Core.List.{List, [], _∷_}
 use Prim.Native.Nat.{ℕ, _+_, _/_, _^_, _≤_, _<_}
 use native.Mathlib.Nat.{le-trans, div-le-self, mod-le}

@@ -17,11 +17,14 @@ use Rattle.closed.specs.Rows.{emitted}
 use Rattle.closed.specs.Grid.{node, edge, cornerBelow, cellCase, cellEdge, cellFaces, gridFaces}
 use Rattle.closed.specs.Counting.{bit-le, cells-cong, all-map}
 use Rattle.closed.specs.Bounds.{caseOf-lt}
+use Rattle.closed.specs.Renumber.{in-all}
+use Rattle.closed.specs.Crossings.{used-crossed, crossed-lt}
 use Rattle.grid.specs.Grid.{Counts, Position, nodeAt}
+use Rattle.grid.specs.declared.Lattice.{Lattice}
 use Rattle.cubes.specs.Cube.{placeOf}
 use Rattle.cubes.specs.Edges.{in-cube, axis-small}
 use Rattle.cubes.specs.Emitted.{emitted-edges}
-use Rattle.cells.specs.Extraction.{isBelow, belowAt, unit}
+use Rattle.cells.specs.Extraction.{isBelow, belowAt, countX, countY, countZ, below, edgeFaces, unit}
 use Rattle.cells.specs.CellWords.{nodeOffset, edgeOffset, stride, sideAt, caseAt, rowFaces, offsetsOf, facesAt, lineFaces, planeFaces, blockFaces}
 
 -- ---- numbers of nodes add up
@@ -158,3 +161,17 @@ unfolding gridFaces cells3
 block-is-grid values nx ny nz iso =
     cells-cong (nx - 1) _ _ (λ i bi. cells-cong (ny - 1) _ _ (λ j bj. cells-cong (nz - 1) _ _ (λ k bk.
     ap (facesAt values ny nz iso) (sym (flat ny nz i j k)) ∙ faces-of-cell values ny nz iso i j k)))
+
+-- ---- all cells of a lattice: each edge is one of 3N, and the faces are those of Extraction
+
+module _ (values : List Float) (l : Lattice) (iso : Float) (counts : Counts (l .counts)) where
+  pub edges-below : All (λ e. e < 3 * (countX l * countY l * countZ l)) (corners (edgeFaces values l iso))
+  unfolding edgeFaces
+  edges-below =
+      in-all (λ e. e < 3 * (countX l * countY l * countZ l)) (corners (gridFaces (countX l) (countY l) (countZ l) (below values l iso)))
+      (λ e m. crossed-lt (countX l) (countY l) (countZ l) (below values l iso) e
+      (used-crossed (countX l) (countY l) (countZ l) (counts .two-x) (counts .two-y) (counts .two-z) (below values l iso) e m))
+
+  pub block-faces : blockFaces values (countY l) (countZ l) iso (countX l - 1) ≡ edgeFaces values l iso
+  unfolding edgeFaces
+  block-faces = block-is-grid values (countX l) (countY l) (countZ l) iso

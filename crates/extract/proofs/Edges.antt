@@ -15,7 +15,7 @@ use Rattle.cells.specs.Extraction.{countY, countZ, unit}
 use Rattle.cells.specs.CellWords.{nodeOffset, edgeOffset, offsetsOf, stride, Inner}
 use Rattle.cells.specs.Cells.{node-add, unit-node, unit-stride, offset-at}
 use Rattle.cells.specs.Rows.{edges-in}
-use Rattle.extract.specs.Passes.{EdgesOf}
+use Rattle.extract.specs.SecondPass.{EdgesOf}
 
 module _ (values : List Float) (l : Lattice) (m all first : ℕ) (offsets : List ℕ) (o : offsets ≡ offsetsOf (countY l) (countZ l)) (f : first ≡ edge m 0)
     (h : m + countY l * countZ l + countZ l + 1 < length values) (a : all ≡ 3 * length values) (few : length values ≤ 16777216) where

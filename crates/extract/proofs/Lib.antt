@@ -1,6 +1,4 @@
--- The laws that the functions' proofs cite: the first pass, then the second.
-pub mod Marking
-pub mod FirstUse
+-- The laws that the functions' proofs cite.
 pub mod Edges
 pub mod Placing
 pub mod FirstPlace

@@ -1,3 +1,3 @@
--- Extraction's two passes: what is claimed of the mesh, and the words of the passes' contracts. The definitions are in the crate `cells`.
+-- Extraction's mesh: what is claimed of it, and the words of the second pass's contracts. The definitions are in the crate `cells`.
 pub mod Claims
-pub mod Passes
+pub mod SecondPass

@@ -8,8 +8,8 @@ ghost use Rattle.closed.specs.Rows.{flatTable, emitted};
 ghost use Rattle.grid.specs.Grid.{Counts};
 ghost use Rattle.cells.specs.Extraction.{countX, countY, countZ, edgePoint};
 ghost use Rattle.cells.specs.CellWords.{rowFaces, lineFaces, planeFaces, blockFaces, offsetsOf, CubeFace, Inner};
-ghost use Rattle.extract.specs.Passes.{place1, vertexIn, EdgesOf, Inside, Room, Written, none, Sized, Mesh};
-use crate::Totals;
+ghost use Rattle.numbering.specs.FirstPass.{none};
+ghost use Rattle.extract.specs.SecondPass.{place1, vertexIn, EdgesOf, Inside, Room, Written, Sized, Mesh};
 use cells::cell_edge;
 use cells::edge_offsets;
 use cells::is_plain;
@@ -19,6 +19,7 @@ use grid::Edge;
 use grid::Lattice;
 use grid::Node;
 use grid::Vertex;
+use numbering::Totals;
 
 // At the first use of its edge a vertex's number is how many are written: its coordinates come next. The answer is how many are written then.
 fn place(

@@ -2,7 +2,7 @@
 -- Assumes nothing.
 use mathlib.Core.Path.{sym, subst}
 use Rattle.cells.specs.Extraction.{edgePoint}
-use Rattle.extract.specs.Passes.{Written}
+use Rattle.extract.specs.SecondPass.{Written}
 use Rattle.extract.proofs.Placing.{written-none}
 use Rattle.cells.specs.Rows.{none-below, all-below}
 use borrow.Author.Needs.{needs}

@@ -7,7 +7,7 @@ use lib.ListN.{length}
 use Rattle.closed.specs.Grid.{edge}
 use Rattle.cells.specs.Extraction.{countY, countZ, edgePoint}
 use Rattle.cells.specs.CellWords.{sideAt, caseAt, facesAt, lineFaces}
-use Rattle.extract.specs.Passes.{Written, Room}
+use Rattle.extract.specs.SecondPass.{Written, Room}
 use Rattle.cells.specs.Cells.{case-below, side-small, two-sides}
 use Rattle.extract.proofs.Placing.{written-start, written-more-cells, room-cell, vertices-kept, faces-kept}
 use Rattle.extract.proofs.Edges.{edges-of}

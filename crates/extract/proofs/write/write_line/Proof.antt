@@ -3,7 +3,7 @@
 use mathlib.Core.Path.{sym, _∙_, subst}
 use native.Mathlib.Omega.{arith}
 use Rattle.cells.specs.Extraction.{countY, countZ, edgePoint}
-use Rattle.extract.specs.Passes.{Written}
+use Rattle.extract.specs.SecondPass.{Written}
 use Rattle.extract.proofs.Placing.{written-none}
 use Rattle.cells.specs.Plain.{plain-line}
 use borrow.Author.Needs.{needs}

@@ -6,7 +6,7 @@ use native.Mathlib.Nat.{mul-le-mul-right, add-mul, le-mul-of-pos-right}
 use native.Mathlib.Omega.{arith}
 use Rattle.cells.specs.Extraction.{countY, countZ, edgePoint}
 use Rattle.cells.specs.CellWords.{lineFaces, planeFaces}
-use Rattle.extract.specs.Passes.{Written, Room}
+use Rattle.extract.specs.SecondPass.{Written, Room}
 use Rattle.extract.proofs.Placing.{written-start, written-more-cells, room-cell, vertices-kept, faces-kept}
 use borrow.Author.Needs.{needs}
 use Rattle.extract.proofs.write.write_plane.Statement.{statement}

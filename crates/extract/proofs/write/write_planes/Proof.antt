@@ -6,7 +6,8 @@ use native.Mathlib.Nat.{mul-le-mul-right, add-mul, mul-assoc, le-mul-of-pos-righ
 use native.Mathlib.Omega.{arith}
 use Rattle.cells.specs.Extraction.{countX, countY, countZ, edgePoint}
 use Rattle.cells.specs.CellWords.{planeFaces, blockFaces}
-use Rattle.extract.specs.Passes.{Written, Room, none}
+use Rattle.numbering.specs.FirstPass.{none}
+use Rattle.extract.specs.SecondPass.{Written, Room}
 use Rattle.extract.proofs.Placing.{written-start, written-more-cells, room-cell, vertices-kept, faces-kept}
 use borrow.Author.Needs.{needs}
 use Rattle.extract.proofs.write.write_planes.Statement.{statement}

@@ -6,7 +6,7 @@ ghost use lib.ListN.{length, getD};
 ghost use Rattle.closed.specs.Faces.{faceOf, mapFace, corners};
 ghost use Rattle.closed.specs.Rows.{flatTable, emitted};
 ghost use Rattle.cells.specs.CellWords.{rowFaces, caseAt, lineFaces, planeFaces, blockFaces, offsetsOf, EdgesIn, CubeFace};
-ghost use Rattle.extract.specs.Passes.{mark1, markAll, Few, none, Numbered, Line, Plane, Block, Ready, Counted};
+ghost use Rattle.numbering.specs.FirstPass.{mark1, markAll, Few, none, Numbered, Line, Plane, Block, Ready, Counted};
 use crate::Totals;
 use cells::cell_edge;
 use cells::edge_offsets;

@@ -1,15 +1,15 @@
--- `extract::number::number_planes` meets its contract: the first i planes are numbered.
+-- `numbering::number::number_planes` meets its contract: the first i planes are numbered.
 -- Assumes nothing.
 use mathlib.Core.Path.{_≡_, subst, _∙_}
 use Prim.Native.Nat.{ℕ, _+_, _-_, _*_, _<_, _≤_}
 use native.Mathlib.Nat.{mul-le-mul-right, add-mul, mul-assoc, one-mul, le-mul-of-pos-right}
 use native.Mathlib.Omega.{arith}
 use Rattle.cells.specs.CellWords.{planeFaces, blockFaces}
-use Rattle.extract.specs.Passes.{Numbered, Few, none}
-use Rattle.extract.proofs.Marking.{numbered-start, numbered-more-cells, numbered-kept, few-later}
+use Rattle.numbering.specs.FirstPass.{Numbered, Few, none}
+use Rattle.numbering.proofs.Marking.{numbered-start, numbered-more-cells, numbered-kept, few-later}
 use borrow.Author.Needs.{needs}
-use Rattle.extract.proofs.number.number_planes.Statement.{statement}
-use Rattle.extract.proofs.number.number_planes.Tie as tie
+use Rattle.numbering.proofs.number.number_planes.Statement.{statement}
+use Rattle.numbering.proofs.number.number_planes.Tie as tie
 
 abbrev Inv-loop : tie.InvT-loop
 Inv-loop table₀ values nx ny nz iso offsets triangles vertices₀ faces₀ i₀ table vertices faces i =

@@ -1,9 +1,9 @@
--- `extract::number::mark` meets its contract.
+-- `numbering::number::mark` meets its contract.
 -- Assumes nothing.
-use Rattle.extract.proofs.Marking.{mark-new, mark-old}
+use Rattle.numbering.proofs.Marking.{mark-new, mark-old}
 use borrow.Author.Needs.{needs}
-use Rattle.extract.proofs.number.mark.Statement.{statement}
-use Rattle.extract.proofs.number.mark.Tie as tie
+use Rattle.numbering.proofs.number.mark.Statement.{statement}
+use Rattle.numbering.proofs.number.mark.Tie as tie
 
 place-requires : tie.Need-place-requires
 place-requires c κs = search needs

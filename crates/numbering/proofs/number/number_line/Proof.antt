@@ -1,14 +1,14 @@
--- `extract::number::number_line` meets its contract: a plain line has no face.
+-- `numbering::number::number_line` meets its contract: a plain line has no face.
 -- Assumes nothing.
 use mathlib.Core.Path.{sym, _∙_, subst}
 use Prim.Native.Nat.{_+_}
 use native.Mathlib.Omega.{arith}
-use Rattle.extract.specs.Passes.{Numbered}
-use Rattle.extract.proofs.Marking.{numbered-none, few-later}
+use Rattle.numbering.specs.FirstPass.{Numbered}
+use Rattle.numbering.proofs.Marking.{numbered-none, few-later}
 use Rattle.cells.specs.Plain.{plain-line}
 use borrow.Author.Needs.{needs}
-use Rattle.extract.proofs.number.number_line.Statement.{statement}
-use Rattle.extract.proofs.number.number_line.Tie as tie
+use Rattle.numbering.proofs.number.number_line.Statement.{statement}
+use Rattle.numbering.proofs.number.number_line.Tie as tie
 
 is-plain-requires : tie.Need-is-plain-requires
 is-plain-requires c κs = (c .before .before .pre .0 .inside, c .before .before .pre .0 .most)

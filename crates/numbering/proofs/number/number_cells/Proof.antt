@@ -1,4 +1,4 @@
--- `extract::number::number_cells` meets its contract: the first k cells are numbered, and the near side of the next is at hand.
+-- `numbering::number::number_cells` meets its contract: the first k cells are numbered, and the near side of the next is at hand.
 -- Assumes nothing.
 use mathlib.Core.Path.{_≡_, sym, subst, _∙_, ap}
 use mathlib.Core.List.{List}
@@ -8,13 +8,13 @@ use lib.ListN.{length}
 use Rattle.closed.specs.Grid.{edge}
 use Rattle.closed.specs.Faces.{Face}
 use Rattle.cells.specs.CellWords.{sideAt, caseAt, facesAt, lineFaces}
-use Rattle.extract.specs.Passes.{Numbered, Few}
+use Rattle.numbering.specs.FirstPass.{Numbered, Few}
 use Rattle.cells.specs.Cells.{case-below, side-small, two-sides}
-use Rattle.extract.proofs.Marking.{numbered-start, numbered-more-cells, numbered-kept, few-next, few-later}
+use Rattle.numbering.proofs.Marking.{numbered-start, numbered-more-cells, numbered-kept, few-next, few-later}
 use Rattle.cells.specs.Rows.{edges-in, cell-faces, few-cell}
 use borrow.Author.Needs.{needs}
-use Rattle.extract.proofs.number.number_cells.Statement.{statement}
-use Rattle.extract.proofs.number.number_cells.Tie as tie
+use Rattle.numbering.proofs.number.number_cells.Statement.{statement}
+use Rattle.numbering.proofs.number.number_cells.Tie as tie
 
 abbrev Inv-loop : tie.InvT-loop
 Inv-loop table₀ values ny nz from iso offsets triangles near₀ vertices₀ faces₀ k₀ table near vertices faces k =

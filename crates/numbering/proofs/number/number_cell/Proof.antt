@@ -1,16 +1,16 @@
--- `extract::number::number_cell` meets its contract.
+-- `numbering::number::number_cell` meets its contract.
 -- Assumes nothing.
 use mathlib.Core.Path.{sym, subst, _∙_, ap}
 use Prim.Native.Nat.{ℕ, _+_, _≤_}
 use native.Mathlib.Omega.{arith}
 use mir.Facts.{fits-le, fits-lit}
 use Rattle.closed.specs.Bounds.{emitted-le}
-use Rattle.extract.specs.Passes.{Numbered}
-use Rattle.extract.proofs.Marking.{numbered-none}
+use Rattle.numbering.specs.FirstPass.{Numbered}
+use Rattle.numbering.proofs.Marking.{numbered-none}
 use Rattle.cells.specs.Rows.{none-below, all-below, row-count}
 use borrow.Author.Needs.{needs}
-use Rattle.extract.proofs.number.number_cell.Statement.{statement}
-use Rattle.extract.proofs.number.number_cell.Tie as tie
+use Rattle.numbering.proofs.number.number_cell.Statement.{statement}
+use Rattle.numbering.proofs.number.number_cell.Tie as tie
 
 returns : tie.Need-returns
 returns c =

@@ -1,14 +1,14 @@
--- `extract::number::mark_face` meets its contract: each edge is the first one and its offset.
+-- `numbering::number::mark_face` meets its contract: each edge is the first one and its offset.
 -- Assumes nothing.
 use mathlib.Core.Path.{sym, subst}
 use Prim.Native.Nat.{ℕ, _+_, _<_}
 use native.Mathlib.Nat.{lt-of-lt-of-le}
 use native.Mathlib.Omega.{arith}
 use lib.ListN.{getD, length}
-use Rattle.extract.proofs.Marking.{mark-step, mark-three}
+use Rattle.numbering.proofs.Marking.{mark-step, mark-three}
 use borrow.Author.Needs.{needs}
-use Rattle.extract.proofs.number.mark_face.Statement.{statement}
-use Rattle.extract.proofs.number.mark_face.Tie as tie
+use Rattle.numbering.proofs.number.mark_face.Statement.{statement}
+use Rattle.numbering.proofs.number.mark_face.Tie as tie
 
 array-read-cell-edge : tie.Need-array-read-cell-edge
 array-read-cell-edge c = search needs

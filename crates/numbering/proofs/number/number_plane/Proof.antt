@@ -1,15 +1,15 @@
--- `extract::number::number_plane` meets its contract: the first j lines are numbered.
+-- `numbering::number::number_plane` meets its contract: the first j lines are numbered.
 -- Assumes nothing.
 use mathlib.Core.Path.{_≡_, subst, _∙_}
 use Prim.Native.Nat.{ℕ, _+_, _-_, _*_, _<_, _≤_}
 use native.Mathlib.Nat.{mul-le-mul-right, add-mul, one-mul, le-mul-of-pos-right}
 use native.Mathlib.Omega.{arith}
 use Rattle.cells.specs.CellWords.{lineFaces, planeFaces}
-use Rattle.extract.specs.Passes.{Numbered, Few}
-use Rattle.extract.proofs.Marking.{numbered-start, numbered-more-cells, numbered-kept, few-later}
+use Rattle.numbering.specs.FirstPass.{Numbered, Few}
+use Rattle.numbering.proofs.Marking.{numbered-start, numbered-more-cells, numbered-kept, few-later}
 use borrow.Author.Needs.{needs}
-use Rattle.extract.proofs.number.number_plane.Statement.{statement}
-use Rattle.extract.proofs.number.number_plane.Tie as tie
+use Rattle.numbering.proofs.number.number_plane.Statement.{statement}
+use Rattle.numbering.proofs.number.number_plane.Tie as tie
 
 abbrev Inv-loop : tie.InvT-loop
 Inv-loop table₀ values ny nz from iso offsets triangles vertices₀ faces₀ j₀ table vertices faces j =

@@ -1,4 +1,4 @@
--- `extract::number::number_edges` meets its contract: the table is cleared, and all planes are numbered.
+-- `numbering::number::number_edges` meets its contract: the table is cleared, and all planes are numbered.
 -- Assumes nothing.
 use mathlib.Core.Path.{_≡_, sym, subst, _∙_, ap}
 use mathlib.Core.List.{List}
@@ -7,11 +7,11 @@ use native.Mathlib.Omega.{arith}
 use lib.ListN.{length, length-replicate}
 use Rattle.cells.specs.Extraction.{countX, countY, countZ}
 use Rattle.cells.specs.CellWords.{blockFaces}
-use Rattle.extract.specs.Passes.{Numbered, none}
-use Rattle.extract.proofs.FirstUse.{counted-all}
+use Rattle.numbering.specs.FirstPass.{Numbered, none}
+use Rattle.numbering.proofs.FirstUse.{counted-all}
 use borrow.Author.Needs.{needs}
-use Rattle.extract.proofs.number.number_edges.Statement.{statement}
-use Rattle.extract.proofs.number.number_edges.Tie as tie
+use Rattle.numbering.proofs.number.number_edges.Statement.{statement}
+use Rattle.numbering.proofs.number.number_edges.Tie as tie
 
 edge-offsets-requires : tie.Need-edge-offsets-requires
 edge-offsets-requires c κs = search needs

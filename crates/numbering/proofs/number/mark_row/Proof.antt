@@ -1,4 +1,4 @@
--- `extract::number::mark_row` meets its contract: the first k faces are marked.
+-- `numbering::number::mark_row` meets its contract: the first k faces are marked.
 -- Assumes nothing.
 use mathlib.Core.Path.{_≡_, refl, sym, subst, _∙_, ap}
 use mathlib.Core.List.{List, [], _∷_}
@@ -10,11 +10,11 @@ use Rattle.closed.specs.Rows.{emitted}
 use Rattle.closed.specs.Bounds.{emitted-le}
 use Rattle.closed.specs.Turning.{corners-append}
 use Rattle.cells.specs.CellWords.{EdgesIn}
-use Rattle.extract.specs.Passes.{Marks, markAll}
-use Rattle.extract.proofs.Marking.{marks-append, marks-kept, marks-more}
+use Rattle.numbering.specs.FirstPass.{Marks, markAll}
+use Rattle.numbering.proofs.Marking.{marks-append, marks-kept, marks-more}
 use Rattle.cells.specs.Rows.{firstFaces, one-more, all-faces, cube-face}
-use Rattle.extract.proofs.number.mark_row.Statement.{statement}
-use Rattle.extract.proofs.number.mark_row.Tie as tie
+use Rattle.numbering.proofs.number.mark_row.Statement.{statement}
+use Rattle.numbering.proofs.number.mark_row.Tie as tie
 
 start : (s : Marks) → s ≡ markAll s []
 unfolding markAll

@@ -18,8 +18,8 @@ use Rattle.closed.specs.Numbering.{note, grow, slot}
 use Rattle.closed.specs.Counting.{same?, cells-one-more}
 use Rattle.closed.specs.Turning.{corners-append, length-corners}
 use Rattle.closed.specs.Renumber.{in-or-not, note-old, slot-in, slot-out, slot-note-new, slot-note-other, length-note-new}
-use Rattle.extract.specs.Passes.{Marks, mark1, markAll, Numbered, Few}
-use Rattle.extract.specs.declared.Totals.{Totals}
+use Rattle.numbering.specs.FirstPass.{Marks, mark1, markAll, Numbered, Few}
+use Rattle.numbering.specs.declared.Totals.{Totals}
 
 -- ---- the edges noted so far, as the pass holds them
 
