@@ -19,7 +19,7 @@ use Rattle.closed.specs.Grid.{node, gridFaces, Outer}
 use Rattle.grid.specs.Grid.{Counts, gridOf, latticeOf}
 use Rattle.grid.specs.Rows.{cube-counts}
 use Rattle.levels.specs.BoundaryAlike.{boundary-alike, outer}
-use Rattle.extract.specs.Extraction.{isBelow, belowAt, extractedFaces, extractedVertices, vertexEdges, edgeFaces}
+use Rattle.cells.specs.Extraction.{isBelow, belowAt, extractedFaces, extractedVertices, vertexEdges, edgeFaces}
 use Rattle.extract.specs.Claims.{one-to-one, places, three-different, faces-counted, closed}
 use Rattle.surface.specs.Surface.{vertexCount, orientedFaces}
 use Rattle.surface.specs.Orienting.{oriented-balanced, oriented-apart, oriented-length, oriented-meshed}

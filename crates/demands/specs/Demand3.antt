@@ -13,7 +13,7 @@ use Rattle.closed.specs.Faces.{Balanced, Apart, faces}
 use Rattle.closed.specs.Numbering.{used}
 use Rattle.closed.specs.Rows.{triangles}
 use Rattle.closed.specs.Grid.{node, cellCase, gridFaces, Crossed, crossedCount}
-use Rattle.extract.specs.Extraction.{isBelow, edgePoint, pointsOf}
+use Rattle.cells.specs.Extraction.{isBelow, edgePoint, pointsOf}
 use Rattle.points.specs.Points.{usables}
 use Rattle.settings.specs.declared.Settings.{Settings}
 use Rattle.scan.specs.Reconstruction.{Results, latticeFor, fieldFor}

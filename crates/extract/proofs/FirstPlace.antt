@@ -20,11 +20,13 @@ use Rattle.closed.specs.Mesh.{mesh-corners, mesh-length, used-member}
 use Rattle.closed.specs.Renumber.{in-or-not, in-note, note-old, note-new, indexOf-lt, indexOf-grow, indexOf-new, member-grow, slot-in, in-all, in-append-left}
 use Rattle.grid.specs.Grid.{Counts}
 use Rattle.grid.specs.declared.Lattice.{Lattice}
-use Rattle.extract.specs.Extraction.{countX, countY, countZ, pointsOf, edgePoint, edgeFaces, vertexEdges, extractedFaces, extractedVertices}
-use Rattle.extract.specs.declared.Totals.{Totals}
-use Rattle.extract.proofs.FirstUse.{block-faces, edges-below}
+use Rattle.cells.specs.Extraction.{countX, countY, countZ, pointsOf, edgePoint, edgeFaces, vertexEdges, extractedFaces, extractedVertices}
+use Rattle.numbering.specs.declared.Totals.{Totals}
+use Rattle.cells.specs.Cells.{edges-below, block-faces}
 use Rattle.closed.specs.Turning.{length-corners}
-use Rattle.extract.specs.Passes.{Places, place1, placeAll, vertexIn, none, blockFaces, edgeTable, Room, Written, Mesh}
+use Rattle.cells.specs.CellWords.{blockFaces}
+use Rattle.numbering.specs.FirstPass.{none, edgeTable}
+use Rattle.extract.specs.SecondPass.{Places, place1, placeAll, vertexIn, Room, Written, Mesh}
 use Rattle.extract.proofs.Placing.{sets-append}
 
 -- ---- the coordinates of several edges

@@ -1,9 +1,4 @@
--- The laws that the functions' proofs cite: a cell and its rows, the first pass, then the second.
-pub mod Cells
-pub mod Rows
-pub mod Plain
-pub mod Marking
-pub mod FirstUse
+-- The laws that the functions' proofs cite.
+pub mod Edges
 pub mod Placing
 pub mod FirstPlace
-pub mod Points

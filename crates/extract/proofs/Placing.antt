@@ -17,9 +17,9 @@ use Rattle.closed.specs.Faces.{Face, corners}
 use Rattle.closed.specs.Counting.{cells-one-more}
 use Rattle.closed.specs.Turning.{corners-append, length-corners}
 use Rattle.grid.specs.declared.Lattice.{Lattice}
-use Rattle.extract.specs.Extraction.{edgePoint}
-use Rattle.extract.specs.Passes.{Places, place1, placeAll, vertexIn, Written, Room}
-use Rattle.extract.specs.declared.Totals.{Totals}
+use Rattle.cells.specs.Extraction.{edgePoint}
+use Rattle.extract.specs.SecondPass.{Places, place1, placeAll, vertexIn, Written, Room}
+use Rattle.numbering.specs.declared.Totals.{Totals}
 
 -- ---- a run of stores in two parts
 

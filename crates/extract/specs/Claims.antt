@@ -15,7 +15,7 @@ use Rattle.closed.specs.Grid.{cellCase, gridFaces, Outer}
 use Rattle.closed.specs.Claims.{OneToOne, Sound, grid-sound, grid-closed}
 use Rattle.grid.specs.Grid.{Counts}
 use Rattle.grid.specs.declared.Lattice.{Lattice}
-use Rattle.extract.specs.Extraction.{countX, countY, countZ, below, edgeFaces, vertexEdges, extractedFaces, extractedVertices, edgePoint, pointsOf}
+use Rattle.cells.specs.Extraction.{countX, countY, countZ, below, edgeFaces, vertexEdges, extractedFaces, extractedVertices, edgePoint, pointsOf}
 
 module _ (values : List Float) (l : Lattice) (iso : Float) (counts : Counts (l .counts)) where
   pub one-to-one : OneToOne (countX l) (countY l) (countZ l) (below values l iso)

@@ -1,4 +1,3 @@
--- Extraction: the definitions, and the words that the passes' contracts add to them.
+-- Extraction's mesh: what is claimed of it, and the words of the second pass's contracts. The definitions are in the crate `cells`.
 pub mod Claims
-pub mod Extraction
-pub mod Passes
+pub mod SecondPass

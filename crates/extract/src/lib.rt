@@ -1,16 +1,8 @@
 // Document 01, "Extraction", beside `extract_shared` of marching_cubes.rs, for any Lattice. In two passes, so that a caller can refuse before anything is
-// written: `number_edges` gives each crossed edge its vertex number in a lent table and answers V and F, `write_mesh` writes the vertices and the faces.
-mod cell;
-mod number;
-mod point;
+// written: `number_edges`, of the crate `numbering`, gives each crossed edge its vertex number in a lent table and answers V and F, `write_mesh` writes the
+// vertices and the faces.
 mod write;
 
-pub use cell::below;
-pub use number::number_edges;
+pub use numbering::Totals;
+pub use numbering::number_edges;
 pub use write::write_mesh;
-
-// How many vertices and how many faces there are.
-pub struct Totals {
-    pub vertices: usize,
-    pub faces: usize,
-}

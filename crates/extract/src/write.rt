@@ -6,18 +6,20 @@ ghost use lib.ListN.{length, getD};
 ghost use Rattle.closed.specs.Faces.{faceOf, mapFace};
 ghost use Rattle.closed.specs.Rows.{flatTable, emitted};
 ghost use Rattle.grid.specs.Grid.{Counts};
-ghost use Rattle.extract.specs.Extraction.{countX, countY, countZ, edgePoint};
-ghost use Rattle.extract.specs.Passes.{place1, vertexIn, rowFaces, lineFaces, planeFaces, blockFaces, offsetsOf, CubeFace, EdgesOf, Inner, Inside, Room, Written, none, Sized, Mesh};
-use crate::Totals;
-use crate::cell::cell_edge;
-use crate::cell::edge_offsets;
-use crate::cell::is_plain;
-use crate::cell::side_of;
-use crate::point::point;
+ghost use Rattle.cells.specs.Extraction.{countX, countY, countZ, edgePoint};
+ghost use Rattle.cells.specs.CellWords.{rowFaces, lineFaces, planeFaces, blockFaces, offsetsOf, CubeFace, Inner};
+ghost use Rattle.numbering.specs.FirstPass.{none};
+ghost use Rattle.extract.specs.SecondPass.{place1, vertexIn, EdgesOf, Inside, Room, Written, Sized, Mesh};
+use cells::cell_edge;
+use cells::edge_offsets;
+use cells::is_plain;
+use cells::point;
+use cells::side_of;
 use grid::Edge;
 use grid::Lattice;
 use grid::Node;
 use grid::Vertex;
+use numbering::Totals;
 
 // At the first use of its edge a vertex's number is how many are written: its coordinates come next. The answer is how many are written then.
 fn place(

@@ -3,7 +3,8 @@
 ghost use mathlib.Core.List.{[], _∷_};
 ghost use lib.ListN.{getD};
 ghost use Rattle.grid.specs.Grid.{Sides, latticeOf};
-ghost use Rattle.extract.specs.Passes.{Ready, Counted, Sized, Mesh};
+ghost use Rattle.numbering.specs.FirstPass.{Ready, Counted};
+ghost use Rattle.extract.specs.SecondPass.{Sized, Mesh};
 
 // The grid has `nodes` per side from (a, b, c) on, `step` apart. V and F go into `counts`.
 #[no_mangle]

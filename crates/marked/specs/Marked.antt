@@ -15,7 +15,7 @@ use Rattle.closed.specs.Grid.{node, edge, cellFaces, gridFaces}
 use Rattle.grid.specs.Grid.{placed, alongOf}
 use Rattle.grid.specs.declared.Lattice.{Lattice}
 use Rattle.blur.specs.Blur.{radiusOf}
-use Rattle.extract.specs.Extraction.{isBelow, belowAt, edgeFaces, vertexEdges, extractedFaces, extractedVertices, pointsOf, edgePoint, lowerValue, upperValue}
+use Rattle.cells.specs.Extraction.{isBelow, belowAt, edgeFaces, vertexEdges, extractedFaces, extractedVertices, pointsOf, edgePoint, lowerValue, upperValue}
 
 -- ---- the numbers that the cases name
 

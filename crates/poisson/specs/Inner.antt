@@ -11,7 +11,7 @@ use Rattle.points.specs.Points.{given}
 use Rattle.settings.specs.declared.Answer.{Answer}
 use Rattle.settings.specs.declared.Settings.{Settings}
 use Rattle.settings.specs.declared.Lengths.{Lengths}
-use Rattle.extract.specs.Passes.{edgeTable}
+use Rattle.numbering.specs.FirstPass.{edgeTable}
 use Rattle.scan.specs.declared.Found.{Found}
 use Rattle.scan.specs.Reconstruction.{Results, gridFor, latticeFor, fieldFor, levelFor, vertexTotal, faceTotal}
 use Rattle.scan.specs.Stages.{Lent}

@@ -15,8 +15,9 @@ use Rattle.grid.specs.declared.Lattice.{Lattice}
 use Rattle.grid.specs.Grid.{Sides, Counts, latticeOf}
 use Rattle.points.specs.declared.point.Point.{Point}
 use Rattle.settings.specs.declared.Settings.{Settings}
-use Rattle.extract.specs.Extraction.{countX, countY, countZ, vertexEdges, edgeFaces, extractedVertices, extractedFaces}
-use Rattle.extract.specs.Passes.{Ready, edgeTable, Sized, Mesh}
+use Rattle.cells.specs.Extraction.{countX, countY, countZ, vertexEdges, edgeFaces, extractedVertices, extractedFaces}
+use Rattle.numbering.specs.FirstPass.{Ready, edgeTable}
+use Rattle.extract.specs.SecondPass.{Sized, Mesh}
 use Rattle.surface.specs.Surface.{vertexCount, Meshed, orientedFaces}
 use Rattle.surface.specs.Orienting.{oriented-length, oriented-meshed}
 use Rattle.trim.specs.Trim.{Room, trimmedVertices, trimmedFaces}

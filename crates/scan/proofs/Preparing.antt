@@ -14,9 +14,9 @@ use Rattle.points.specs.declared.bounds.Bounds.{Bounds}
 use Rattle.points.specs.Box.{boundsOf, extentOf, sideOf, originOf}
 use Rattle.points.specs.Spacing.{spacingOf}
 use Rattle.settings.specs.declared.Settings.{Settings}
-use Rattle.extract.specs.Extraction.{countX, countY, countZ}
-use Rattle.extract.specs.Passes.{Ready, Counted}
-use Rattle.extract.specs.declared.Totals.{Totals}
+use Rattle.cells.specs.Extraction.{countX, countY, countZ}
+use Rattle.numbering.specs.FirstPass.{Ready, Counted}
+use Rattle.numbering.specs.declared.Totals.{Totals}
 use Rattle.surface.specs.Surface.{levelOf}
 use Rattle.levels.specs.declared.Problem.{Problem}
 use Rattle.levels.specs.Levels.{solution}

@@ -17,7 +17,7 @@ use Rattle.closed.specs.Mesh.{mesh-length, corner-lt}
 use Rattle.closed.specs.Bounds.{faces-le, vertices-le}
 use Rattle.grid.specs.declared.Lattice.{Lattice}
 use Rattle.grid.specs.Grid.{Counts}
-use Rattle.extract.specs.Extraction.{countX, countY, countZ, below, edgeFaces, vertexEdges, extractedFaces, extractedVertices, edgePoint, pointsOf}
+use Rattle.cells.specs.Extraction.{countX, countY, countZ, below, edgeFaces, vertexEdges, extractedFaces, extractedVertices, edgePoint, pointsOf}
 use Rattle.surface.specs.Surface.{vertexCount, Meshed}
 
 module _ (values : List Float) (l : Lattice) (iso : Float) where

@@ -21,7 +21,7 @@ use Rattle.settings.specs.declared.Lengths.{Lengths}
 use Rattle.settings.specs.declared.Verdict.{Verdict}
 use Rattle.settings.specs.declared.Verdict.the-variants.{VertexRoom, FaceRoom, NoFace}
 use Rattle.settings.specs.Refusals.{_when_, _then_, vertexRoomVerdict, faceRoomVerdict, meshVerdict}
-use Rattle.extract.specs.Extraction.{isBelow, belowAt, below, countX, countY, countZ, edgeFaces, vertexEdges}
+use Rattle.cells.specs.Extraction.{isBelow, belowAt, below, countX, countY, countZ, edgeFaces, vertexEdges}
 use Rattle.surface.specs.Surface.{levelOf}
 use Rattle.scan.specs.Reconstruction.{gridFor, latticeFor, fieldFor, levelFor, vertexTotal, faceTotal, keptFaces, lateVerdict}
 

@@ -22,7 +22,7 @@ use Rattle.settings.specs.Refusals.{_then_, earlyVerdict, usableVerdict, extent
 use Rattle.levels.specs.declared.Problem.{Problem}
 use Rattle.levels.specs.Levels.{solution}
 use Rattle.trim.specs.Trim.{trimmedVertices, trimmedFaces}
-use Rattle.extract.specs.Extraction.{vertexEdges, edgeFaces, extractedVertices, extractedFaces}
+use Rattle.cells.specs.Extraction.{vertexEdges, edgeFaces, extractedVertices, extractedFaces}
 use Rattle.surface.specs.Surface.{levelOf, orientedFaces, vertexCount, boxOf}
 
 -- ---- the stages, over the usable points

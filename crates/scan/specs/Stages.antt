@@ -17,7 +17,7 @@ use Rattle.settings.specs.declared.Answer.{Answer}
 use Rattle.settings.specs.Answers.{answerUnder}
 use Rattle.settings.specs.Refusals.{meshVerdict}
 use Rattle.surface.specs.Surface.{vertexCount, boxOf}
-use Rattle.extract.specs.Passes.{edgeTable}
+use Rattle.numbering.specs.FirstPass.{edgeTable}
 use Rattle.scan.specs.declared.Found.{Found}
 use Rattle.trim.specs.declared.MeshSize.{MeshSize}
 use Rattle.scan.specs.Reconstruction.{gridFor, latticeFor, fieldFor, levelFor, vertexTotal, faceTotal, keptVertices, keptFaces}

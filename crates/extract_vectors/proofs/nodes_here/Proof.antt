@@ -1,7 +1,7 @@
 -- `extract_vectors::nodes_here` meets its contract: three sides of at most 128 multiply without wrapping. Assumes nothing.
 use Prim.Native.Nat.{_≤_}
 use native.Mathlib.Nat.{mul-le-mul}
-use Rattle.extract.specs.Extraction.{countX, countY, countZ}
+use Rattle.cells.specs.Extraction.{countX, countY, countZ}
 use Prim.Native.Nat.{_≤_}
 use native.Mathlib.Omega.{arith}
 use borrow.Author.Needs.{needs}

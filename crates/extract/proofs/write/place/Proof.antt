@@ -6,7 +6,7 @@ use Prim.Native.Nat.{ℕ, _+_, _*_, _≤_}
 use native.Mathlib.Omega.{arith}
 use lib.Ieee.{Float, nan}
 use lib.ListN.{length, getD, set, length-set}
-use Rattle.extract.specs.Extraction.{edgePoint}
+use Rattle.cells.specs.Extraction.{edgePoint}
 use Rattle.extract.proofs.Placing.{place-more, place-old, place-new, room-one, stores, point-list}
 use borrow.Author.Needs.{needs}
 use Rattle.extract.proofs.write.place.Statement.{statement}

@@ -1,10 +1,10 @@
 -- `extract::write::write_cell` meets its contract.
 -- Assumes nothing.
 use mathlib.Core.Path.{sym, subst}
-use Rattle.extract.specs.Extraction.{edgePoint}
-use Rattle.extract.specs.Passes.{Written}
+use Rattle.cells.specs.Extraction.{edgePoint}
+use Rattle.extract.specs.SecondPass.{Written}
 use Rattle.extract.proofs.Placing.{written-none}
-use Rattle.extract.proofs.Rows.{none-below, all-below}
+use Rattle.cells.specs.Rows.{none-below, all-below}
 use borrow.Author.Needs.{needs}
 use Rattle.extract.proofs.write.write_cell.Statement.{statement}
 use Rattle.extract.proofs.write.write_cell.Tie as tie

@@ -5,12 +5,13 @@ use Prim.Native.Nat.{ℕ, _+_, _-_, _*_, _<_, _≤_}
 use native.Mathlib.Omega.{arith}
 use lib.ListN.{length}
 use Rattle.closed.specs.Grid.{edge}
-use Rattle.extract.specs.Extraction.{countY, countZ, edgePoint}
-use Rattle.extract.specs.Passes.{Written, Room, sideAt, caseAt, facesAt, lineFaces}
-use Rattle.extract.proofs.Cells.{case-below, side-small, two-sides}
+use Rattle.cells.specs.Extraction.{countY, countZ, edgePoint}
+use Rattle.cells.specs.CellWords.{sideAt, caseAt, facesAt, lineFaces}
+use Rattle.extract.specs.SecondPass.{Written, Room}
+use Rattle.cells.specs.Cells.{case-below, side-small, two-sides}
 use Rattle.extract.proofs.Placing.{written-start, written-more-cells, room-cell, vertices-kept, faces-kept}
-use Rattle.extract.proofs.Points.{edges-of}
-use Rattle.extract.proofs.Rows.{cell-faces}
+use Rattle.extract.proofs.Edges.{edges-of}
+use Rattle.cells.specs.Rows.{cell-faces}
 use borrow.Author.Needs.{needs}
 use Rattle.extract.proofs.write.write_cells.Statement.{statement}
 use Rattle.extract.proofs.write.write_cells.Tie as tie

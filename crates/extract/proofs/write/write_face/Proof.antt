@@ -5,8 +5,9 @@ use Prim.Native.Nat.{ℕ, _+_, _*_, _<_, _≤_}
 use native.Mathlib.Omega.{arith}
 use lib.ListN.{length, getD, set, length-set}
 use lib.Seq.{sets}
-use Rattle.extract.specs.Extraction.{edgePoint}
-use Rattle.extract.specs.Passes.{Places, place1, vertexIn, Inner}
+use Rattle.cells.specs.Extraction.{edgePoint}
+use Rattle.cells.specs.CellWords.{Inner}
+use Rattle.extract.specs.SecondPass.{Places, place1, vertexIn}
 use Rattle.extract.proofs.Placing.{place-three, three-rooms, three-stores, three-same}
 use borrow.Author.Needs.{needs}
 use Rattle.extract.proofs.write.write_face.Statement.{statement}

@@ -2,10 +2,10 @@
 -- Assumes nothing.
 use mathlib.Core.Path.{sym, _∙_, subst}
 use native.Mathlib.Omega.{arith}
-use Rattle.extract.specs.Extraction.{countY, countZ, edgePoint}
-use Rattle.extract.specs.Passes.{Written}
+use Rattle.cells.specs.Extraction.{countY, countZ, edgePoint}
+use Rattle.extract.specs.SecondPass.{Written}
 use Rattle.extract.proofs.Placing.{written-none}
-use Rattle.extract.proofs.Plain.{plain-line}
+use Rattle.cells.specs.Plain.{plain-line}
 use borrow.Author.Needs.{needs}
 use Rattle.extract.proofs.write.write_line.Statement.{statement}
 use Rattle.extract.proofs.write.write_line.Tie as tie

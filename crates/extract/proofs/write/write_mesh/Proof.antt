@@ -4,7 +4,7 @@ use mathlib.Core.Path.{sym, ap, _∙_}
 use Prim.Native.Nat.{ℕ, _*_, _≤_}
 use native.Mathlib.Nat.{mul-le-mul-right, mul-assoc, one-mul}
 use native.Mathlib.Omega.{arith}
-use Rattle.extract.specs.Extraction.{countX, countY, countZ}
+use Rattle.cells.specs.Extraction.{countX, countY, countZ}
 use Rattle.extract.proofs.FirstPlace.{room-all, mesh-all}
 use borrow.Author.Needs.{needs}
 use Rattle.extract.proofs.write.write_mesh.Statement.{statement}

@@ -4,8 +4,10 @@ use mathlib.Core.Path.{_≡_, sym, subst}
 use Prim.Native.Nat.{ℕ, _+_, _-_, _*_, _<_, _≤_}
 use native.Mathlib.Nat.{mul-le-mul-right, add-mul, mul-assoc, le-mul-of-pos-right}
 use native.Mathlib.Omega.{arith}
-use Rattle.extract.specs.Extraction.{countX, countY, countZ, edgePoint}
-use Rattle.extract.specs.Passes.{Written, Room, planeFaces, blockFaces, none}
+use Rattle.cells.specs.Extraction.{countX, countY, countZ, edgePoint}
+use Rattle.cells.specs.CellWords.{planeFaces, blockFaces}
+use Rattle.numbering.specs.FirstPass.{none}
+use Rattle.extract.specs.SecondPass.{Written, Room}
 use Rattle.extract.proofs.Placing.{written-start, written-more-cells, room-cell, vertices-kept, faces-kept}
 use borrow.Author.Needs.{needs}
 use Rattle.extract.proofs.write.write_planes.Statement.{statement}

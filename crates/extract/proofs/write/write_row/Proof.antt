@@ -9,11 +9,12 @@ use lib.ListN.{length, getD, drop}
 use Rattle.closed.specs.Faces.{Face, face, mapFace, faceOf}
 use Rattle.closed.specs.Rows.{emitted}
 use Rattle.closed.specs.Bounds.{emitted-le}
-use Rattle.extract.specs.Extraction.{edgePoint}
-use Rattle.extract.specs.Passes.{Written, Room, rowFaces}
-use Rattle.extract.specs.declared.Totals.{Totals}
+use Rattle.cells.specs.Extraction.{edgePoint}
+use Rattle.cells.specs.CellWords.{rowFaces}
+use Rattle.extract.specs.SecondPass.{Written, Room}
+use Rattle.numbering.specs.declared.Totals.{Totals}
 use Rattle.extract.proofs.Placing.{written-none, written-append, room-next, vertices-kept, faces-kept}
-use Rattle.extract.proofs.Rows.{firstFaces, one-more, all-faces, rest-faces, cube-face}
+use Rattle.cells.specs.Rows.{firstFaces, one-more, all-faces, rest-faces, cube-face}
 use Rattle.extract.proofs.write.write_row.Statement.{statement}
 use Rattle.extract.proofs.write.write_row.Tie as tie
 

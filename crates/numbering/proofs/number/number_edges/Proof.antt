@@ -1,0 +1,75 @@
+-- `numbering::number::number_edges` meets its contract: the table is cleared, and all planes are numbered.
+-- Assumes nothing.
+use mathlib.Core.Path.{_≡_, sym, subst, _∙_, ap}
+use mathlib.Core.List.{List}
+use Prim.Native.Nat.{ℕ, _*_, _-_}
+use native.Mathlib.Omega.{arith}
+use lib.ListN.{length, length-replicate}
+use Rattle.cells.specs.Extraction.{countX, countY, countZ}
+use Rattle.cells.specs.CellWords.{blockFaces}
+use Rattle.numbering.specs.FirstPass.{Numbered, none}
+use Rattle.numbering.proofs.FirstUse.{counted-all}
+use borrow.Author.Needs.{needs}
+use Rattle.numbering.proofs.number.number_edges.Statement.{statement}
+use Rattle.numbering.proofs.number.number_edges.Tie as tie
+
+edge-offsets-requires : tie.Need-edge-offsets-requires
+edge-offsets-requires c κs = search needs
+
+triangle-table-requires : tie.Need-triangle-table-requires
+triangle-table-requires c κs = search needs
+
+clear-u32-requires : tie.Need-clear-u32-requires
+clear-u32-requires c κs = search needs
+
+element-copy-out-number-planes : tie.Need-element-copy-out-number-planes
+element-copy-out-number-planes c = search needs
+
+element-copy-out-number-planes-2 : tie.Need-element-copy-out-number-planes-2
+element-copy-out-number-planes-2 c = search needs
+
+element-copy-out-number-planes-3 : tie.Need-element-copy-out-number-planes-3
+element-copy-out-number-planes-3 c = search needs
+
+number-planes-requires : tie.Need-number-planes-requires
+number-planes-requires c κs =
+    let s = c .before .before .before .before .before .before .before .before .before .before .before .before .before .before in
+    let z = c .before .before .before .before .before .before .before .before .clear-u32 in
+    let m : length (z .last .0) ≡ length (s .args .table .now) = ap length (z .ensures) ∙ length-replicate (length (s .args .table .now)) 0 in (
+      record {
+        two = s .pre .counts .two-z;
+        rows = s .pre .counts .two-y;
+        planes = s .pre .counts .two-x;
+        inside = s .pre .nodes;
+        edges = m ∙ s .pre .edges ∙ ap (λ (n : ℕ). 3 * n) (sym (s .pre .nodes));
+        most = omega (arith, s .pre .nodes, s .pre .counts .most);
+      },
+      c .before .before .before .before .before .before .before .before .before .before .before .edge-offsets .ensures,
+      c .before .before .before .before .before .before .before .before .before .before .triangle-table .ensures,
+    )
+
+same-length : tie.Need-same-length
+same-length c = search needs
+
+returns : tie.Need-returns
+returns c =
+    let s = c .before .before .before .before .before .before .before .before .before .before .before .before .before .before .before .before .before in
+    let a = s .args in
+    let m = c .before .before .number-planes in
+    counted-all (a .values .now) (a .t2) (a .iso) (s .pre .counts) (length (a .table .now)) (m .last .0) (m .result) (s .pre .edges)
+    (subst (λ (t : List ℕ). Numbered t (m .last .0) none (m .result) (blockFaces (a .values .now) (countY (a .t2)) (countZ (a .t2)) (a .iso) (countX (a .t2) - 1)))
+    (c .before .before .before .before .before .before .before .before .before .before .before .clear-u32 .ensures) (m .ensures))
+
+pub number-edges-spec : {M : Type 1} → statement M
+number-edges-spec =
+    tie.close
+    (tie.spec
+    edge-offsets-requires
+    triangle-table-requires
+    clear-u32-requires
+    element-copy-out-number-planes
+    element-copy-out-number-planes-2
+    element-copy-out-number-planes-3
+    number-planes-requires
+    same-length
+    returns)
