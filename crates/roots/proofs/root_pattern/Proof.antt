@@ -1,4 +1,4 @@
--- `arith::root_pattern` meets its contract: `RootPattern` bounds its numbers, and says that its result is the root's pattern. Assumes nothing.
+-- `roots::root_pattern` meets its contract: `RootPattern` bounds its numbers, and says that its result is the root's pattern. Assumes nothing.
 use borrow.Author.Needs.{needs}
 use mathlib.Core.Path.{_≡_, refl, sym, subst}
 use Prim.Native.Nat.{ℕ, _+_, _-_, _*_, _/_, _^_, _≤_, _<_}
@@ -8,11 +8,11 @@ use lib.Count.{leading-le}
 use lib.Ieee.{prec, emax, hid, ones, ofBits}
 use Rattle.numbers.specs.Arithmetic.{rooted}
 use Rattle.numbers.specs.Squares.{IsRoot}
-use Rattle.arith.specs.RootWords.{IsFormat, RootOf}
+use Rattle.roots.specs.RootWords.{IsFormat, RootOf}
 use Rattle.numbers.specs.Patterns.{expo}
 use Rattle.numbers.specs.RootPattern.{Sizes, sizes, Known, known, root-under, power, wide, root-pattern}
-use Rattle.arith.proofs.root.root_pattern.Statement.{statement}
-use Rattle.arith.proofs.root.root_pattern.Tie as tie
+use Rattle.roots.proofs.root_pattern.Statement.{statement}
+use Rattle.roots.proofs.root_pattern.Tie as tie
 
 -- what the `requires` says of p and e
 of-format : {p e b : ℕ} → IsFormat p e b → Sizes p e

@@ -1,4 +1,4 @@
--- `arith::whole_root` meets its contract: `RootDivide` has its numbers. Assumes nothing.
+-- `roots::whole_root` meets its contract: `RootDivide` has its numbers. Assumes nothing.
 use borrow.Author.Needs.{needs}
 use mathlib.Core.Path.{sym, subst}
 use Prim.Native.Nat.{ℕ, _+_, _-_, _*_, _/_, _^_, _<_}
@@ -6,8 +6,8 @@ use native.Mathlib.Nat.{div-mul-le-self}
 use native.Mathlib.Omega.{arith}
 use Rattle.numbers.specs.Squares.{IsRoot}
 use Rattle.numbers.specs.RootDivide.{Split, split-of, top-lt, s-lt, s-pos, rest-lt, lower-lt, q-le, over-small, square-small, exact, positive, less, product-lt}
-use Rattle.arith.proofs.root.whole_root.Statement.{statement}
-use Rattle.arith.proofs.root.whole_root.Tie as tie
+use Rattle.roots.proofs.whole_root.Statement.{statement}
+use Rattle.roots.proofs.whole_root.Tie as tie
 
 -- what the numbers are, where the upper half is known
 at-root : (c : tie.After-small-root) → let a = c .before .before .args in Split (a .x * 2 ^ a .h) (c .before .shifted .result) (c .small-root .result) (2 ^ (a .h / 2))

@@ -1,11 +1,11 @@
--- `arith::guess` meets its contract, which says only that the guess is small. Assumes nothing.
+-- `roots::guess` meets its contract, which says only that the guess is small. Assumes nothing.
 use borrow.Author.Needs.{needs}
 use Prim.Native.Nat.{_-_, _*_, _^_, _≤_}
 use native.Mathlib.Nat.{div-le-self}
 use native.Mathlib.Omega.{arith}
 use lib.Pow.{pow-mono}
-use Rattle.arith.proofs.root.guess.Statement.{statement}
-use Rattle.arith.proofs.root.guess.Tie as tie
+use Rattle.roots.proofs.guess.Statement.{statement}
+use Rattle.roots.proofs.guess.Tie as tie
 
 sub-line : tie.Need-sub-line
 sub-line c = search needs

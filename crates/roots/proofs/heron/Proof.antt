@@ -1,9 +1,9 @@
--- `arith::heron` meets its contract: the quotient is at most n. Assumes nothing.
+-- `roots::heron` meets its contract: the quotient is at most n. Assumes nothing.
 use borrow.Author.Needs.{needs}
 use native.Mathlib.Nat.{div-le-self}
 use native.Mathlib.Omega.{arith}
-use Rattle.arith.proofs.root.heron.Statement.{statement}
-use Rattle.arith.proofs.root.heron.Tie as tie
+use Rattle.roots.proofs.heron.Statement.{statement}
+use Rattle.roots.proofs.heron.Tie as tie
 
 div-r : tie.Need-div-r
 div-r c = search needs

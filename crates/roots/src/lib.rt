@@ -1,11 +1,11 @@
-// The square root of an f32 and of an f64, correctly rounded to nearest even, of every pattern: below zero gives NaN, -0 gives -0.
+// Document 01, "Arithmetic": the square root of an f32 and of an f64, correctly rounded to nearest even, of every pattern: below zero gives NaN, -0 gives -0.
 // One function on bit patterns serves both formats. It normalises by counting leading zeros, and takes one integer root, by a guess that is put right
 // and one division. The source calls the machine's `sqrt`, which the logic does not have.
 ghost use mathlib.Core.Path.{_≡_};
 ghost use Prim.Native.Nat.{_+_, _-_, _*_, _^_, _≤_, _<_};
 ghost use lib.Ieee.{binary32, binary64};
 ghost use Rattle.numbers.specs.Arithmetic.{rooted};
-ghost use Rattle.arith.specs.RootWords.{IsFormat, RootOf};
+ghost use Rattle.roots.specs.RootWords.{IsFormat, RootOf};
 
 // x - 1, and 0 for 0.
 fn less_one(x: u64) -> u64
