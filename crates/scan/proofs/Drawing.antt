@@ -17,8 +17,8 @@ use Rattle.points.specs.declared.point.Point.{Point}
 use Rattle.settings.specs.declared.Settings.{Settings}
 use Rattle.extract.specs.Extraction.{countX, countY, countZ, vertexEdges, edgeFaces, extractedVertices, extractedFaces}
 use Rattle.extract.specs.Passes.{Ready, edgeTable, Sized, Mesh}
-use Rattle.surface.specs.Surface.{vertexCount, Meshed, orientedFaces}
-use Rattle.surface.specs.Orienting.{oriented-length, oriented-meshed}
+use Rattle.orientation.specs.Orientation.{vertexCount, Meshed, orientedFaces}
+use Rattle.orientation.specs.Orienting.{oriented-length, oriented-meshed}
 use Rattle.trim.specs.Trim.{Room, trimmedVertices, trimmedFaces}
 use Rattle.scan.specs.Reconstruction.{gridFor, latticeFor, fieldFor, levelFor, wholeVertices, wholeFaces, vertexTotal, faceTotal, keptVertices, keptFaces}
 use Rattle.scan.specs.Stages.{Drawable}

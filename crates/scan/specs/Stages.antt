@@ -16,7 +16,8 @@ use Rattle.settings.specs.declared.Settings.{Settings}
 use Rattle.settings.specs.declared.Answer.{Answer}
 use Rattle.settings.specs.Answers.{answerUnder}
 use Rattle.settings.specs.Refusals.{meshVerdict}
-use Rattle.surface.specs.Surface.{vertexCount, boxOf}
+use Rattle.orientation.specs.Orientation.{vertexCount}
+use Rattle.surface.specs.Surface.{boxOf}
 use Rattle.extract.specs.Passes.{edgeTable}
 use Rattle.scan.specs.declared.Found.{Found}
 use Rattle.trim.specs.declared.MeshSize.{MeshSize}
