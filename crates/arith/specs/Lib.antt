@@ -1,3 +1,2 @@
 -- The words of contracts inside the crate.
-pub mod RootWords
 pub mod NarrowWords

@@ -1,9 +1,9 @@
-// Document 01, "Arithmetic": the functions. Each is total, and its contract is an equation with a definition of the crate `numbers`.
+// Document 01, "Arithmetic": the functions. Each is total, and its contract is an equation with a definition of the crate `numbers`. The square root has a crate of
+// its own, `roots`, and is passed on.
 mod exponential;
 mod narrowing;
 mod patterns;
 mod pick;
-mod root;
 mod steps;
 
 pub use exponential::exp_neg;
@@ -20,8 +20,8 @@ pub use pick::clamp64;
 pub use pick::largest;
 pub use pick::least;
 pub use pick::sign;
-pub use root::root32;
-pub use root::root64;
+pub use roots::root32;
+pub use roots::root64;
 pub use steps::ceiling;
 pub use steps::floor;
 pub use steps::to_whole;

@@ -23,7 +23,8 @@ use Rattle.levels.specs.declared.Problem.{Problem}
 use Rattle.levels.specs.Levels.{solution}
 use Rattle.trim.specs.Trim.{trimmedVertices, trimmedFaces}
 use Rattle.cells.specs.Extraction.{vertexEdges, edgeFaces, extractedVertices, extractedFaces}
-use Rattle.surface.specs.Surface.{levelOf, orientedFaces, vertexCount, boxOf}
+use Rattle.orientation.specs.Orientation.{orientedFaces, vertexCount}
+use Rattle.surface.specs.Surface.{levelOf, boxOf}
 
 -- ---- the stages, over the usable points
 

@@ -16,8 +16,9 @@ use Rattle.settings.specs.declared.Settings.{Settings}
 use Rattle.settings.specs.declared.Answer.{Answer}
 use Rattle.settings.specs.Answers.{answerUnder}
 use Rattle.settings.specs.Refusals.{meshVerdict}
-use Rattle.surface.specs.Surface.{vertexCount, boxOf}
 use Rattle.numbering.specs.FirstPass.{edgeTable}
+use Rattle.orientation.specs.Orientation.{vertexCount}
+use Rattle.surface.specs.Surface.{boxOf}
 use Rattle.scan.specs.declared.Found.{Found}
 use Rattle.trim.specs.declared.MeshSize.{MeshSize}
 use Rattle.scan.specs.Reconstruction.{gridFor, latticeFor, fieldFor, levelFor, vertexTotal, faceTotal, keptVertices, keptFaces}

@@ -122,7 +122,7 @@ pub fn draw(
     ensures { λ r. ⌜ Drawn (usables (now (points .entry))) settings r (now (vertices .entry)) (now (vertices .exit)) (now (faces .entry)) (now (faces .exit)) (now (a .entry)) (now (a .exit)) (now (b .entry)) (now (b .exit)) (now (c .entry)) (now (c .exit)) (now (edges .entry)) (now (edges .exit)) ⌝ }
 {
     extract::write_mesh(field, g.lattice(), level, edges, vertices, faces);
-    surface::orient(g, field, vertices, faces);
+    orientation::orient(g, field, vertices, faces);
     let trimming = settings.trimming;
     trim::trim(trimming, points, vertices, faces, edges, a, b, c)
 }

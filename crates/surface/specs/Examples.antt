@@ -1,10 +1,10 @@
--- Edges of the box of the vertices and of the stride, by computation: equal coordinates stay, NaN replaces nothing; F/500 is rounded down. Assumes nothing.
+-- Edges of the box of the vertices, by computation: equal coordinates stay, NaN replaces nothing. Assumes nothing.
 use mathlib.Core.Path.{_≡_, refl}
 use mathlib.Core.Bool.{true, false}
 use mathlib.Core.List.{[], _∷_}
 use lib.IntN.{pos}
 use lib.Ieee.{Float, nan, fin, ofBits, lt}
-use Rattle.surface.specs.Surface.{strideOf, reachedBy, boxTo, boxOf}
+use Rattle.surface.specs.Surface.{reachedBy, boxTo, boxOf}
 
 -- +0, -0 and 1
 abbrev O : Float
@@ -22,6 +22,3 @@ pub boxes :
     × (boxOf (I ∷ O ∷ O ∷ O ∷ I ∷ O ∷ []) ≡ record { low = O ∷ O ∷ O ∷ []; high = I ∷ I ∷ O ∷ [] })
 unfolding boxOf boxTo reachedBy ofBits lt
 boxes = (refl, refl, refl)
-
-pub strides : (strideOf 1 ≡ 1) × (strideOf 999 ≡ 1) × (strideOf 1000 ≡ 2)
-strides = (refl, refl, refl)

@@ -1,139 +1,27 @@
--- Document 01, "Box, level, orientation, trim", but for the cube (crate `points`) and the trim (crate `trim`); and the box of the vertices of "What crosses the counter".
--- A mesh is two flat lists, three f32 a vertex and three vertex numbers a face; `faces` of the crate `closed` reads the second. Definitions only; assumes nothing.
-use mathlib.Core.Path.{_≡_}
+-- Document 01, "Box, level, orientation, trim": the level; and the box of the vertices of "What crosses the counter". The cube is in the crate `points`, a mesh
+-- and its orientation in `orientation`, the trim in `trim`. Definitions only; assumes nothing.
 use mathlib.Core.Bool.{cond}
-use mathlib.Core.List.{List, [], _∷_, map, foldl}
-use Prim.Native.Nat.{ℕ, zero, suc, _+_, _*_, _/_, _<_, max}
+use mathlib.Core.List.{List, [], _∷_, foldl}
+use Prim.Native.Nat.{ℕ, zero, suc}
 use lib.IntN.{pos}
-use lib.ListN.{length, getD, set}
-use lib.Ieee.{Float, binary32, binary64, ofBits, ofInt, neg, add, sub, mul, div, lt}
+use lib.ListN.{length}
+use lib.Ieee.{Float, binary64, ofInt, add, div, lt}
 use Rattle.lists.specs.Lists.{at, zero32}
-use Rattle.numbers.specs.Arithmetic.{narrowed, signed}
-use Rattle.closed.specs.Faces.{Face, face, turn}
+use Rattle.numbers.specs.Arithmetic.{narrowed}
 use Rattle.grid.specs.declared.Grid.{Grid}
 use Rattle.grid.specs.Grid.{sampled}
 use Rattle.points.specs.declared.point.Point.{Point}
 use Rattle.points.specs.Points.{placeOf}
-use Rattle.points.specs.Spacing.{everyFrom}
+use Rattle.orientation.specs.Orientation.{minusZero, vertexCount, vertexAt}
 use Rattle.surface.specs.declared.reach.VertexBox.{VertexBox}
 
 -- ---- level: mean of samples at usable points plus offset, narrowed
-
--- the sums of the level and of the orientation start from -0.0
-abbrev pub minusZero : Float
-minusZero = neg (ofBits binary64 0)
 
 abbrev pub plusSample : Grid → List Float → Float → Point → Float
 plusSample g values sum p = add binary64 sum (sampled g values (placeOf p))
 
 unfoldable pub levelOf : Grid → List Float → List Point → Float → Float
 levelOf g values ps offset = narrowed (add binary64 (div binary64 (foldl (plusSample g values) minusZero ps) (ofInt binary64 (pos (length ps)))) offset)
-
--- ---- a mesh in two flat lists
-
-abbrev pub vertexCount : List Float → ℕ
-vertexCount vertices = length vertices / 3
-
-abbrev pub faceCount : List ℕ → ℕ
-faceCount numbers = length numbers / 3
-
--- whole triples, and each number is that of a vertex
-pub record Meshed (vertices : List Float) (numbers : List ℕ) : Type 0 where
-  pub places : length vertices ≡ 3 * vertexCount vertices
-  pub triples : length numbers ≡ 3 * faceCount numbers
-  pub below : (k : ℕ) → k < length numbers → getD numbers k 0 < vertexCount vertices
-
--- the three numbers of face t; and the list with other numbers in their place
-abbrev pub cornersAt : List ℕ → ℕ → List ℕ
-cornersAt numbers t = getD numbers (3 * t) 0 ∷ getD numbers (3 * t + 1) 0 ∷ getD numbers (3 * t + 2) 0 ∷ []
-
-abbrev pub putFace : List ℕ → ℕ → List ℕ → List ℕ
-putFace numbers t f = set (set (set numbers (3 * t) (getD f 0 0)) (3 * t + 1) (getD f 1 0)) (3 * t + 2) (getD f 2 0)
-
--- each corner is one of so many vertices
-pub record Corners (count : ℕ) (f : List ℕ) : Type 0 where
-  pub first : getD f 0 0 < count
-  pub second : getD f 1 0 < count
-  pub third : getD f 2 0 < count
-
--- a coordinate of vertex v, and all three
-abbrev pub coordinate : List Float → ℕ → ℕ → Float
-coordinate vertices v axis = at vertices (3 * v + axis)
-
-abbrev pub vertexAt : List Float → ℕ → List Float
-vertexAt vertices v = coordinate vertices v 0 ∷ coordinate vertices v 1 ∷ coordinate vertices v 2 ∷ []
-
--- ---- a face's centre and normal, in f32
-
-abbrev pub three32 : Float
-three32 = ofBits binary32 0x4040_0000
-
-abbrev pub centred : Float → Float → Float → Float
-centred a b c = div binary32 (add binary32 (add binary32 a b) c) three32
-
--- ((v0+v1)+v2)/3 in the order of the corners, a component at a time
-unfoldable pub centreOf : List Float → Face → List Float
-centreOf vertices (face a b c) =
-    centred (coordinate vertices a 0) (coordinate vertices b 0) (coordinate vertices c 0)
-    ∷ centred (coordinate vertices a 1) (coordinate vertices b 1) (coordinate vertices c 1)
-    ∷ centred (coordinate vertices a 2) (coordinate vertices b 2) (coordinate vertices c 2)
-    ∷ []
-
--- q - p, a component at a time
-abbrev pub minus : List Float → List Float → List Float
-minus q p = sub binary32 (at q 0) (at p 0) ∷ sub binary32 (at q 1) (at p 1) ∷ sub binary32 (at q 2) (at p 2) ∷ []
-
--- y1·z2 - z1·y2, and the others in turn
-abbrev pub cross : List Float → List Float → List Float
-cross p q =
-    sub binary32 (mul binary32 (at p 1) (at q 2)) (mul binary32 (at p 2) (at q 1))
-    ∷ sub binary32 (mul binary32 (at p 2) (at q 0)) (mul binary32 (at p 0) (at q 2))
-    ∷ sub binary32 (mul binary32 (at p 0) (at q 1)) (mul binary32 (at p 1) (at q 0))
-    ∷ []
-
--- the cross product of the sides from corner 0 to corners 1 and 2
-unfoldable pub normalOf : List Float → Face → List Float
-normalOf vertices (face a b c) = cross (minus (vertexAt vertices b) (vertexAt vertices a)) (minus (vertexAt vertices c) (vertexAt vertices a))
-
--- ---- orientation
-
-abbrev pub half64 : Float
-half64 = ofBits binary64 0x3FE0_0000_0000_0000
-
--- what the field gains along an axis from half a step before a place to half a step behind it, in f64
-unfoldable pub gainAt : Grid → List Float → List Float → ℕ → Float
-gainAt g values p axis =
-    sub binary64
-    (sampled g values (set p axis (add binary64 (at p axis) (mul binary64 (g .step) half64))))
-    (sampled g values (set p axis (sub binary64 (at p axis) (mul binary64 (g .step) half64))))
-
--- whether a face looks where the field grows: the sign of normal · gradient, in f64; a float widened is the same number
-unfoldable pub signAt : Grid → List Float → List Float → Face → Float
-signAt g values vertices f =
-    let n = normalOf vertices f in
-    let p = centreOf vertices f in
-    signed
-    (add binary64
-    (add binary64 (mul binary64 (at n 0) (gainAt g values p 0)) (mul binary64 (at n 1) (gainAt g values p 1)))
-    (mul binary64 (at n 2) (gainAt g values p 2)))
-
--- faces 0, s, 2s.. with s = max(F/500, 1)
-abbrev pub strideOf : ℕ → ℕ
-strideOf count = max (count / 500) 1
-
-abbrev pub asked : List Face → List Face
-asked fs = everyFrom (strideOf (length fs)) 0 fs
-
-abbrev pub plusSign : Grid → List Float → List Float → Float → Face → Float
-plusSign g values vertices sum f = add binary64 sum (signAt g values vertices f)
-
--- the sum of their signs
-unfoldable pub agreementOf : Grid → List Float → List Float → List Face → Float
-agreementOf g values vertices fs = foldl (plusSign g values vertices) minusZero (asked fs)
-
--- below zero swaps corners 1 and 2 of all faces; a NaN sum is not below and swaps nothing
-unfoldable pub orientedFaces : Grid → List Float → List Float → List Face → List Face
-orientedFaces g values vertices fs = cond (lt (agreementOf g values vertices fs) (ofBits binary64 0)) (map turn fs) fs
 
 -- ---- the box of the vertices
 

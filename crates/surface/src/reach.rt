@@ -1,7 +1,7 @@
 // The box of the vertices, which is part of the answer. The Rust has none.
 ghost use mathlib.Core.Path.{_≡_};
 ghost use Rattle.surface.specs.Surface.{lower, higher, reachedBy, boxOf};
-use crate::triangle::triple_at;
+use orientation::triple_at;
 
 // The low and the high corner.
 pub struct VertexBox {

@@ -15,7 +15,7 @@ use Rattle.closed.specs.Renumber.{in-or-not, in-at, indexOf-lt, note-old, lengt
 use Rattle.closed.specs.Mesh.{mesh-length}
 use Rattle.closed.specs.Turning.{length-corners, length-faces, corners-faces}
 use Rattle.points.specs.declared.point.Point.{Point}
-use Rattle.surface.specs.Surface.{vertexCount, faceCount, Meshed}
+use Rattle.orientation.specs.Orientation.{vertexCount, faceCount, Meshed}
 use Rattle.settings.specs.declared.Trimming.the-variants.{Off, Within}
 use Rattle.trim.specs.declared.MeshSize.{MeshSize}
 use Rattle.trim.specs.Trim.{near, keptFaces, placesOf, trimmedFaces, trimmedVertices, Trimmed}

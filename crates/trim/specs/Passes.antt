@@ -7,7 +7,7 @@ use lib.Ieee.{Float}
 use Rattle.lists.specs.Lists.{at}
 use Rattle.closed.specs.Faces.{Face, faces}
 use Rattle.closed.specs.Numbering.{used, mesh, slot}
-use Rattle.surface.specs.Surface.{vertexCount, coordinate}
+use Rattle.orientation.specs.Orientation.{vertexCount, coordinate}
 use Rattle.trim.specs.declared.MeshSize.{MeshSize}
 
 -- ---- the table: for each old vertex 0, or one more than its place among those seen

@@ -11,7 +11,7 @@ use Rattle.closed.specs.Faces.{Face, corners, faces}
 use Rattle.closed.specs.Numbering.{used, mesh}
 use Rattle.points.specs.declared.point.Point.{Point}
 use Rattle.points.specs.Search.{withinOf}
-use Rattle.surface.specs.Surface.{vertexCount, coordinate, centreOf}
+use Rattle.orientation.specs.Orientation.{vertexCount, coordinate, centreOf}
 use Rattle.settings.specs.declared.Trimming.{Trimming}
 use Rattle.settings.specs.declared.Trimming.the-variants.{Off, Within}
 use Rattle.trim.specs.declared.MeshSize.{MeshSize}

@@ -11,7 +11,7 @@ ghost use lib.ListN.{length};
 ghost use Rattle.lists.specs.Lists.{zeros32, zerosU};
 ghost use Rattle.closed.specs.Faces as Flat;
 ghost use Rattle.points.specs.Points.{usables};
-ghost use Rattle.surface.specs.Surface.{vertexCount, Meshed};
+ghost use Rattle.orientation.specs.Orientation.{vertexCount, Meshed};
 ghost use Rattle.settings.specs.declared.Trimming.the-variants.{Within};
 ghost use Rattle.trim.specs.Trim.{keptFaces, Trimmed, Room};
 ghost use Rattle.trim.specs.Passes.{Front};

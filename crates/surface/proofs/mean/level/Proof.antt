@@ -11,7 +11,8 @@ use borrow.Author.Needs.{needs}
 use Rattle.grid.specs.Grid.{sampled}
 use Rattle.points.specs.Points.{given, usables}
 use Rattle.points.specs.UsableLoop.{Folded, folded-none, folded-used, folded-skipped, folded-done, count-le}
-use Rattle.surface.specs.Surface.{minusZero, plusSample, levelOf}
+use Rattle.orientation.specs.Orientation.{minusZero}
+use Rattle.surface.specs.Surface.{plusSample, levelOf}
 use Rattle.surface.proofs.mean.level.Statement.{statement}
 use Rattle.surface.proofs.mean.level.Tie as tie
 

@@ -8,7 +8,8 @@ use lib.Ieee.{Float}
 use Rattle.lists.specs.Lists.{at}
 use denote.Ref.{now}
 use Rattle.surface.specs.declared.reach.VertexBox.{VertexBox}
-use Rattle.surface.specs.Surface.{vertexCount, vertexAt, reachedBy, boxTo, boxFor, boxOf}
+use Rattle.orientation.specs.Orientation.{vertexCount, vertexAt}
+use Rattle.surface.specs.Surface.{reachedBy, boxTo, boxFor, boxOf}
 use borrow.Author.Needs.{needs}
 use Rattle.surface.proofs.reach.bounds.Statement.{statement}
 use Rattle.surface.proofs.reach.bounds.Tie as tie

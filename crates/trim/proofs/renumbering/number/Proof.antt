@@ -3,7 +3,7 @@ use mathlib.Core.Path.{_≡_, refl, _∙_}
 use Prim.Native.Nat.{_+_, _-_, _*_, _<_}
 use native.Mathlib.Omega.{arith}
 use lib.ListN.{length}
-use Rattle.surface.specs.Surface.{Corners}
+use Rattle.orientation.specs.Orientation.{Corners}
 use Rattle.trim.specs.Passes.{Noted}
 use Rattle.trim.proofs.FirstUse.{Numbering, numbering-none, numbering-corners, numbering-noted, numbering-more, numbering-done}
 use Rattle.trim.proofs.renumbering.number.Statement.{statement}

@@ -1,0 +1,32 @@
+-- `orientation::orient` meets its contract: it turns all faces where the sum is below zero, and else none. Assumes nothing.
+use mathlib.Core.Path.{sym}
+use Rattle.orientation.specs.Orientation.{orientedFaces}
+use Rattle.orientation.specs.FlatFaces.{meshed-corners}
+use borrow.Author.Needs.{needs}
+use Rattle.orientation.proofs.orient.Statement.{statement}
+use Rattle.orientation.proofs.orient.Tie as tie
+
+agreement-requires : tie.Need-agreement-requires
+agreement-requires c κs = search needs
+
+turn-all-requires : tie.Need-turn-all-requires
+turn-all-requires c κs = search needs
+
+same-length : tie.Need-same-length
+same-length c = search needs
+
+returns : tie.Need-returns
+unfolding orientedFaces
+returns c = rw (← c .before .before .before .before .before .agreement .ensures, c .before .before .before .before .if1 .taken) (c .before .before .turn-all .ensures)
+
+same-length-2 : tie.Need-same-length-2
+same-length-2 c = search needs
+
+returns-2 : tie.Need-returns-2
+unfolding orientedFaces
+returns-2 c = rw (← c .before .agreement .ensures, c .if1 .left) (sym (meshed-corners (c .before .before .before .before .before .before .pre .1 .1)))
+
+pub orient-spec : {M : Type 1} → statement M
+orient-spec =
+    tie.close
+    (tie.spec agreement-requires turn-all-requires same-length returns same-length-2 returns-2)
