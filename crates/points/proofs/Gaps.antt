@@ -11,12 +11,13 @@ use lib.Seq.{getD-take}
 use lib.Ieee.{Float, nan, lt}
 use Rattle.lists.specs.Lists.{zero32}
 use Rattle.lists.specs.Fold.{fold-snoc}
+use Rattle.lists.specs.EveryNth.{everyFrom}
 use Rattle.points.specs.declared.point.Point.{Point}
 use Rattle.points.specs.declared.neighbours.Gap.{Gap}
 use Rattle.points.specs.declared.neighbours.Gap.the-variants.{Found, Nothing}
 use Rattle.points.specs.Points.{given, pointAt, usableOf, usableTo, usables}
 use Rattle.points.specs.Search.{inserted, sorted}
-use Rattle.points.specs.Spacing.{everyFrom, gapAt, listed, gapsAmong, gapsBy, medianOf}
+use Rattle.points.specs.Spacing.{gapAt, listed, gapsAmong, gapsBy, medianOf}
 use Rattle.points.specs.Inner.{putGap, sizeOf, gapBy}
 use Rattle.points.specs.UsableLoop.{used, skipped, usable-none}
 

@@ -5,6 +5,7 @@ use mathlib.Core.List.{[], _∷_}
 use lib.IntN.{pos}
 use lib.Ieee.{Float, nan, inf, fin, binary32, binary64, ofBits, neg, add, sub, mul, div, lt, le, isNan}
 use Rattle.numbers.specs.Arithmetic.{rooted}
+use Rattle.lists.specs.EveryNth.{everyFrom}
 use Rattle.points.specs.declared.point.Point.{Point}
 use Rattle.points.specs.declared.point.Usability.the-variants.{Usable, PositionNotFinite, LengthNotFinite, NormalTooShort}
 use Rattle.points.specs.declared.search.Least.the-variants.{Empty, One, Two}
@@ -12,7 +13,7 @@ use Rattle.points.specs.declared.neighbours.Gap.the-variants.{Found, Not
 use Rattle.points.specs.Points.{lengthOf, lengthUsability, placedOf, usabilityOf}
 use Rattle.points.specs.Box.{reached, noBounds, boundsOf, extentOf, sideOf, originOf}
 use Rattle.points.specs.Search.{squareOf, sorted, nearestOf, anyOf, withinOf}
-use Rattle.points.specs.Spacing.{everyFrom, strideOf, gapAt, medianOf}
+use Rattle.points.specs.Spacing.{strideOf, gapAt, medianOf}
 
 -- ---- to speak of
 

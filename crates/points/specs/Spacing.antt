@@ -1,12 +1,12 @@
 -- Document 01, "Spacing", in its order. Definitions only; assumes nothing.
 use mathlib.Core.Bool.{cond}
 use mathlib.Core.List.{List, [], _∷_, _++_}
-use Prim.Native.Nat.{ℕ, suc, _/_, _%_, max}
-use lib.Dec.{eqb}
+use Prim.Native.Nat.{ℕ, _/_, max}
 use lib.ListN.{length, getD}
 use lib.Ieee.{Float, binary64, ofBits, mul, lt}
 use Rattle.numbers.specs.Arithmetic.{largest}
 use Rattle.lists.specs.Lists.{zero32}
+use Rattle.lists.specs.EveryNth.{everyFrom}
 use Rattle.points.specs.declared.point.Point.{Point}
 use Rattle.points.specs.declared.search.Least.{Least}
 use Rattle.points.specs.declared.search.Least.the-variants.{Empty, One, Two}
@@ -18,11 +18,6 @@ use Rattle.points.specs.Search.{nearestOf, sorted}
 
 abbrev pub strideOf : ℕ → ℕ
 strideOf count = max (count / 1000) 1
-
--- the elements 0, s, 2s.. of a list whose first is number i
-abbrev pub everyFrom : {A : Type 0} → ℕ → ℕ → List A → List A
-everyFrom s i [] = []
-everyFrom s i (p ∷ l) = let t = everyFrom s (suc i) l in cond (eqb (i % s) 0) (p ∷ t) t
 
 -- ---- each gives the first positive of its two smallest distances, itself included
 

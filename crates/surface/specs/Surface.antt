@@ -14,7 +14,7 @@ use Rattle.grid.specs.declared.Grid.{Grid}
 use Rattle.grid.specs.Grid.{sampled}
 use Rattle.points.specs.declared.point.Point.{Point}
 use Rattle.points.specs.Points.{placeOf}
-use Rattle.points.specs.Spacing.{everyFrom}
+use Rattle.lists.specs.EveryNth.{everyFrom}
 use Rattle.surface.specs.declared.reach.VertexBox.{VertexBox}
 
 -- ---- level: mean of samples at usable points plus offset, narrowed

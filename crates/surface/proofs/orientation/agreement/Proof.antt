@@ -7,7 +7,7 @@ use borrow.Author.Needs.{needs}
 use lib.Ieee.{binary64, add}
 use denote.Ref.{now}
 use Rattle.closed.specs.Faces as Flat
-use Rattle.points.specs.Spacing.{everyFrom}
+use Rattle.lists.specs.EveryNth.{everyFrom}
 use Rattle.surface.specs.Surface.{faceCount, minusZero, signAt, strideOf, plusSign, agreementOf}
 use Rattle.surface.specs.FlatFaces.{noFace, face-read, meshed-faces, meshed-face}
 use Rattle.surface.proofs.EveryOther.{Asking, asking-none, asking-more, asking-done}
