@@ -1,4 +1,4 @@
-//! The exported functions of `points` and `grid`, by bits, against the same in Rust.
+//! The exported functions of `points`, `search` and `grid`, by bits, against the same in Rust.
 use native::{brute, points, stored64, Patterns};
 
 /// Points of any patterns, points near each other, exact doubles, and points far apart.

@@ -10,7 +10,7 @@ use borrow.Author.Tests.{eq-eqb, ne-eqb}
 use lib.Arith.{digits-mod}
 use lib.ListN.{length, getD, drop, drop-of-length-le}
 use lib.Seq.{drop-cons, drop-drop}
-use Rattle.points.specs.Spacing.{everyFrom}
+use Rattle.lists.specs.EveryNth.{everyFrom}
 
 -- ---- from one multiple of s to the next
 

@@ -7,11 +7,11 @@ use Prim.Native.Nat.{ℕ, _+_, _*_, _/_, _<_, max}
 use lib.ListN.{length, getD, set}
 use lib.Ieee.{Float, binary32, binary64, ofBits, neg, add, sub, mul, div, lt}
 use Rattle.lists.specs.Lists.{at}
+use Rattle.lists.specs.EveryNth.{everyFrom}
 use Rattle.numbers.specs.Arithmetic.{signed}
 use Rattle.closed.specs.Faces.{Face, face, turn}
 use Rattle.grid.specs.declared.Grid.{Grid}
 use Rattle.grid.specs.Grid.{sampled}
-use Rattle.points.specs.Spacing.{everyFrom}
 
 -- ---- a mesh in two flat lists
 

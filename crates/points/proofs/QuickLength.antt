@@ -5,21 +5,12 @@ use mathlib.Core.Bool.{true, false, false≢true}
 use lib.Dec.{T}
 use lib.IntN.{pos}
 use lib.Ieee.{Float, nan, inf, fin, binary32, ofBits, lt, le, isNan}
-use lib.Ieee.Fits.{add-fits}
 use lib.Ieee.Scale.{finite}
 use Rattle.numbers.specs.Arithmetic.{rooted}
 use Rattle.numbers.specs.RootOrder.{rooted-mono}
-use Rattle.numbers.specs.SumOfSquares.{Square, none, far, some, mul-square, add-square, lt-le, le-not, not-negative}
+use Rattle.numbers.specs.SumOfSquares.{Square, none, far, some, lt-le, le-not, not-negative}
 use Rattle.numbers.specs.RootSquares.{HeldSquare, root-held}
-use Rattle.points.specs.Points.{squaresOf, shortest, lengthUsability, isUsable}
-
--- every such sum is a square that f32 holds
-pub squares-held : (x y z : Float) → HeldSquare binary32 (squaresOf x y z)
-squares-held x y z =
-    record {
-      kind = add-square binary32 _ _ (add-square binary32 _ _ (mul-square binary32 x) (mul-square binary32 y)) (mul-square binary32 z);
-      fit = add-fits binary32 _ _;
-    }
+use Rattle.points.specs.Points.{shortest, lengthUsability, isUsable}
 
 -- ---- the two bounds and their roots
 

@@ -1,18 +1,14 @@
--- Edges of document 01's Points, box and Spacing, by computation: lengths about 1e-12 and the reasons in their order; ranks; doubles; infinite and NaN distances; at most, not less.
+-- Edges of document 01's Points and box, by computation: lengths about 1e-12 and the reasons in their order; the box of no points, of one and of two, and the cube round it. Assumes nothing.
 use mathlib.Core.Path.{_≡_, refl}
 use mathlib.Core.Bool.{true, false}
 use mathlib.Core.List.{[], _∷_}
 use lib.IntN.{pos}
-use lib.Ieee.{Float, nan, inf, fin, binary32, binary64, ofBits, neg, add, sub, mul, div, lt, le, isNan}
+use lib.Ieee.{Float, nan, inf, fin, binary32, binary64, ofBits, neg, add, sub, mul, div, lt, isNan}
 use Rattle.numbers.specs.Arithmetic.{rooted}
 use Rattle.points.specs.declared.point.Point.{Point}
 use Rattle.points.specs.declared.point.Usability.the-variants.{Usable, PositionNotFinite, LengthNotFinite, NormalTooShort}
-use Rattle.points.specs.declared.search.Least.the-variants.{Empty, One, Two}
-use Rattle.points.specs.declared.neighbours.Gap.the-variants.{Found, Nothing}
 use Rattle.points.specs.Points.{lengthOf, lengthUsability, placedOf, usabilityOf}
 use Rattle.points.specs.Box.{reached, noBounds, boundsOf, extentOf, sideOf, originOf}
-use Rattle.points.specs.Search.{squareOf, sorted, nearestOf, anyOf, withinOf}
-use Rattle.points.specs.Spacing.{everyFrom, strideOf, gapAt, medianOf}
 
 -- ---- to speak of
 
@@ -68,44 +64,3 @@ pub cube :
     × (originOf (boundsOf (placed III ∷ placed I ∷ [])) ≡ ofBits binary64 0x3FE9_9999_9999_999A ∷ ofBits binary64 0xBFF3_3333_3333_3333 ∷ ofBits binary64 0xBFF3_3333_3333_3333 ∷ [])  -- 0.8, -1.2
 unfolding boundsOf noBounds reached extentOf sideOf originOf isNan ofBits sub add neg mul div lt
 cube = (refl, refl)
-
--- ---- the two smallest, for every query
-
-pub nearest :
-    (nearestOf [] (O ∷ O ∷ O ∷ []) ≡ Empty)
-    × (nearestOf (placed III ∷ placed O ∷ placed I ∷ []) (O ∷ O ∷ O ∷ []) ≡ Two O I)
-    × (nearestOf (placed huge ∷ placed O ∷ []) (O ∷ O ∷ O ∷ []) ≡ Two O (inf false))  -- an infinite distance counts
-    × (nearestOf (placed I ∷ placed O ∷ []) (nan ∷ O ∷ O ∷ []) ≡ Two nan nan)
-    × (nearestOf (placed I ∷ []) (inf false ∷ O ∷ O ∷ []) ≡ One (inf false))
-unfolding nearestOf sorted squareOf rooted isNan sub add neg mul lt
-nearest = (refl, refl, refl, refl, refl)
-
--- at most the limit, and NaN is not
-pub within :
-    (withinOf (placed II ∷ []) (O ∷ O ∷ O ∷ []) (fin false 1 (pos 2)) ≡ true)
-    × (withinOf (placed II ∷ []) (O ∷ O ∷ O ∷ []) III ≡ false)
-    × (withinOf (placed II ∷ []) (O ∷ O ∷ O ∷ []) nan ≡ false)
-    × (withinOf (placed II ∷ []) (nan ∷ O ∷ O ∷ []) (inf false) ≡ false)
-    × (withinOf (placed II ∷ []) (inf false ∷ O ∷ O ∷ []) (inf false) ≡ true)
-unfolding withinOf anyOf squareOf sub add neg mul le
-within = (refl, refl, refl, refl, refl)
-
--- ---- gaps, strides and ranks
-
-pub gaps :
-    (gapAt (placed O ∷ placed III ∷ []) (placed O) ≡ Found III)
-    × (gapAt (placed O ∷ placed O ∷ placed III ∷ []) (placed O) ≡ Nothing)  -- an exact double gives none
-    × (gapAt (placed O ∷ placed huge ∷ []) (placed O) ≡ Found (inf false))
-    × (gapAt (placed O ∷ []) (placed O) ≡ Nothing)
-unfolding gapAt nearestOf sorted squareOf rooted isNan ofBits sub add neg mul lt
-gaps = (refl, refl, refl, refl)
-
-pub strides : (strideOf 999 ≡ 1) × (strideOf 1999 ≡ 1) × (strideOf 2000 ≡ 2) × (everyFrom 2 0 (placed O ∷ placed I ∷ placed II ∷ []) ≡ placed O ∷ placed II ∷ [])
-strides = (refl, refl, refl, refl)
-
-pub ranks :
-    (medianOf [] ≡ O)
-    × (medianOf (III ∷ I ∷ []) ≡ III)
-    × (medianOf (III ∷ I ∷ II ∷ []) ≡ II)
-unfolding medianOf sorted ofBits lt
-ranks = (refl, refl, refl)

@@ -1,4 +1,4 @@
-// Functions of `points` and `grid` for C and Rust to call, so that they can be tested and timed on any processor. Each is that of its crate, and its contract
+// Functions of `points`, `search` and `grid` for C and Rust to call, so that they can be tested and timed on any processor. Each is that of its crate, and its contract
 // too. The caller keeps what a `requires` asks: lengths that fit. Nothing checks it at the boundary.
 ghost use mathlib.Core.Path.{_≡_};
 ghost use mathlib.Core.List.{[], _∷_};
@@ -7,7 +7,7 @@ ghost use lib.ListN.{length};
 ghost use Rattle.lists.specs.Lists.{zeros32};
 ghost use Rattle.points.specs.Points.{given, usables};
 ghost use Rattle.points.specs.Box.{boundsOf, extentOf};
-ghost use Rattle.points.specs.Spacing.{spacingOf};
+ghost use Rattle.search.specs.Spacing.{spacingOf};
 ghost use Rattle.grid.specs.Grid.{Sides, sampled};
 
 #[no_mangle]
@@ -30,7 +30,7 @@ pub extern "C" fn hoardmagpie_spacing(points: &[f32], list: &mut [f32], extent: 
     requires { ⌜ given (now points) ≤ length (now list) ⌝ }
     ensures { λ r. ⌜ (r ≡ spacingOf (usables (now (points .entry))) extent) × (now (list .exit) ≡ zeros32 (length (now (list .entry)))) ⌝ }
 {
-    points::spacing(points, list, extent)
+    search::spacing(points, list, extent)
 }
 
 // The grid has `nodes` per side from (a, b, c) on, `step` apart; the place is (x, y, z).

@@ -1,4 +1,4 @@
-// Worked values of `points`: each case makes its points by the rule of rule.rt, and the functions' answers are printed as counts and bit patterns. The file
+// Worked values of `points` and `search`: each case makes its points by the rule of rule.rt, and the functions' answers are printed as counts and bit patterns. The file
 // `stdout` was written by native/src/bin/points_values.rs: the same rule, and document 01's Points, box and Spacing by brute search, in Rust.
 mod rule;
 
@@ -99,7 +99,7 @@ fn report(points: &[f32], list: &mut [f32])
     single(b"  extent", extent);
     single(b"  side", b.side());
     triple(b"  origin", b.origin());
-    single(b"  spacing", points::spacing(points, list, extent));
+    single(b"  spacing", search::spacing(points, list, extent));
 }
 
 // Makes a case's points and reports on the first `all` of them. 2304 points have room.

@@ -12,7 +12,7 @@ use Rattle.grid.specs.Grid.{Sides, Counts, gridOf, latticeOf}
 use Rattle.points.specs.declared.point.Point.{Point}
 use Rattle.points.specs.declared.bounds.Bounds.{Bounds}
 use Rattle.points.specs.Box.{boundsOf, extentOf, sideOf, originOf}
-use Rattle.points.specs.Spacing.{spacingOf}
+use Rattle.search.specs.Spacing.{spacingOf}
 use Rattle.settings.specs.declared.Settings.{Settings}
 use Rattle.cells.specs.Extraction.{countX, countY, countZ}
 use Rattle.numbering.specs.FirstPass.{Ready, Counted}

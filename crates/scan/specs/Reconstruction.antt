@@ -12,7 +12,7 @@ use Rattle.grid.specs.Grid.{gridOf, latticeOf}
 use Rattle.points.specs.declared.point.Point.{Point}
 use Rattle.points.specs.Points.{usables}
 use Rattle.points.specs.Box.{boundsOf, extentOf, sideOf, originOf}
-use Rattle.points.specs.Spacing.{spacingOf}
+use Rattle.search.specs.Spacing.{spacingOf}
 use Rattle.settings.specs.declared.Settings.{Settings}
 use Rattle.settings.specs.declared.Lengths.{Lengths}
 use Rattle.settings.specs.declared.Answer.{Answer}

@@ -49,7 +49,7 @@ pub fn field_and_level(
     requires { ⌜ Lent (8 ^ settings .depth) (given (now points)) (now s0) (now s1) (now s2) (now s3) (now s4) (now s5) (now s6) (now distances) ⌝ }
     ensures { λ r. ⌜ Solved (usables (now (points .entry))) settings r (now (s0 .exit)) (now (s1 .exit)) (now (s2 .exit)) (now (s3 .exit)) (now (s4 .exit)) (now (s5 .exit)) (now (s6 .exit)) (now (distances .entry)) (now (distances .exit)) ⌝ }
 {
-    let spacing = points::spacing(points, distances, bounds.extent());
+    let spacing = search::spacing(points, distances, bounds.extent());
     let origin = bounds.origin();
     let problem = Problem {
         origin,

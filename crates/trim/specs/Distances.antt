@@ -7,7 +7,7 @@ use Rattle.numbers.specs.Symmetry.{mul-neg-both}
 use Rattle.closed.specs.Lists.{keep}
 use Rattle.closed.specs.Faces.{Face}
 use Rattle.points.specs.declared.point.Point.{Point}
-use Rattle.points.specs.Search.{squareOf, anyOf, withinOf}
+use Rattle.search.specs.Search.{squareOf, anyOf, withinOf}
 use Rattle.trim.specs.Trim.{near, keptFaces}
 
 pub opposite-distance : (ps : List Point) (vertices : List Float) (distance : Float) (fs : List Face)

@@ -8,7 +8,7 @@ use Rattle.closed.specs.Lists.{member, keep}
 use Rattle.closed.specs.Faces.{Face, face}
 use Rattle.closed.specs.Numbering.{note, grow, dedup, indexOf, used, mesh}
 use Rattle.points.specs.declared.point.Point.{Point}
-use Rattle.points.specs.Search.{squareOf, anyOf, withinOf}
+use Rattle.search.specs.Search.{squareOf, anyOf, withinOf}
 use Rattle.settings.specs.declared.Trimming.the-variants.{Off, Within}
 use Rattle.orientation.specs.Orientation.{centreOf}
 use Rattle.trim.specs.Trim.{keptFaces, placesOf, trimmedFaces, trimmedVertices}

@@ -10,7 +10,7 @@ use Rattle.closed.specs.Lists.{keep}
 use Rattle.closed.specs.Faces.{Face, corners, faces}
 use Rattle.closed.specs.Numbering.{used, mesh}
 use Rattle.points.specs.declared.point.Point.{Point}
-use Rattle.points.specs.Search.{withinOf}
+use Rattle.search.specs.Search.{withinOf}
 use Rattle.orientation.specs.Orientation.{vertexCount, coordinate, centreOf}
 use Rattle.settings.specs.declared.Trimming.{Trimming}
 use Rattle.settings.specs.declared.Trimming.the-variants.{Off, Within}

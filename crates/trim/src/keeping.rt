@@ -15,7 +15,7 @@ fn is_near(points: &[f32], limit: f32, vertices: &[f32], face: [u32; 3]) -> bool
     requires { ⌜ Corners (vertexCount (now vertices)) face ⌝ }
     ensures { λ r. ⌜ r ≡ near (usables (now (points .entry))) (now (vertices .entry)) limit (Flat.faceOf face) ⌝ }
 {
-    points::within(points, centre(vertices, face), limit)
+    search::within(points, centre(vertices, face), limit)
 }
 
 // Moves the faces that are near to the front, in their order. How many there are.

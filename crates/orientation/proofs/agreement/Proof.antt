@@ -7,7 +7,7 @@ use borrow.Author.Needs.{needs}
 use lib.Ieee.{binary64, add}
 use denote.Ref.{now}
 use Rattle.closed.specs.Faces as Flat
-use Rattle.points.specs.Spacing.{everyFrom}
+use Rattle.lists.specs.EveryNth.{everyFrom}
 use Rattle.orientation.specs.Orientation.{faceCount, minusZero, signAt, strideOf, plusSign, agreementOf}
 use Rattle.orientation.specs.FlatFaces.{noFace, face-read, meshed-faces, meshed-face}
 use Rattle.orientation.proofs.EveryOther.{Asking, asking-none, asking-more, asking-done}
