@@ -197,8 +197,8 @@ pub fn two_nearest(points: &[Point3f], query: &Point3f) -> Vec<(usize, f32)> {
 
 // ---- time ----
 
-/// Processor time that this thread has used: other work on the machine does not count.
-pub fn thread_time() -> Duration {
+/// What one of the system's clocks shows.
+fn clock(id: i32) -> Duration {
     #[repr(C)]
     struct Timespec {
         seconds: i64,
@@ -207,9 +207,20 @@ pub fn thread_time() -> Duration {
     extern "C" {
         fn clock_gettime(clock: i32, time: *mut Timespec) -> i32;
     }
-    const CLOCK_THREAD_CPUTIME_ID: i32 = 3;
     let mut time = Timespec { seconds: 0, nanoseconds: 0 };
     // The call writes one Timespec, which is ours.
-    unsafe { clock_gettime(CLOCK_THREAD_CPUTIME_ID, &mut time) };
+    unsafe { clock_gettime(id, &mut time) };
     Duration::new(time.seconds as u64, time.nanoseconds as u32)
+}
+
+/// Processor time that this thread has used: other work on the machine does not count.
+pub fn thread_time() -> Duration {
+    const CLOCK_THREAD_CPUTIME_ID: i32 = 3;
+    clock(CLOCK_THREAD_CPUTIME_ID)
+}
+
+/// Processor time that all threads of the process have used.
+pub fn process_time() -> Duration {
+    const CLOCK_PROCESS_CPUTIME_ID: i32 = 2;
+    clock(CLOCK_PROCESS_CPUTIME_ID)
 }

@@ -5,27 +5,11 @@
 //! repeats counts.
 use calls::random::Random;
 use calls::{aimed, shapes, sound, Call};
+use oracle::process_time;
 use rayon::{ThreadPool, ThreadPoolBuilder};
 use std::time::Instant;
 use threecrate_core::{NormalPoint3f, Point3f, PointCloud, TriangleMesh, Vector3f};
 use threecrate_reconstruction::poisson::{poisson_reconstruction, PoissonConfig};
-
-/// Seconds of processor time that the process has used.
-fn process_time() -> f64 {
-    #[repr(C)]
-    struct Timespec {
-        seconds: i64,
-        nanoseconds: i64,
-    }
-    extern "C" {
-        fn clock_gettime(clock: i32, time: *mut Timespec) -> i32;
-    }
-    const CLOCK_PROCESS_CPUTIME_ID: i32 = 2;
-    let mut time = Timespec { seconds: 0, nanoseconds: 0 };
-    // The call writes one Timespec, which is ours.
-    unsafe { clock_gettime(CLOCK_PROCESS_CPUTIME_ID, &mut time) };
-    time.seconds as f64 + time.nanoseconds as f64 * 1e-9
-}
 
 fn cloud(flat: &[f32]) -> PointCloud<NormalPoint3f> {
     let point =
@@ -53,10 +37,10 @@ fn best(cloud: &PointCloud<NormalPoint3f>, depth: u32, threads: usize, repeats: 
     let config = PoissonConfig { depth, ..Default::default() };
     let mut best = (f64::INFINITY, f64::INFINITY, 0, 0);
     for _ in 0..repeats {
-        let (cpu, wall) = (process_time(), Instant::now());
+        let (cpu, wall) = (process_time().as_secs_f64(), Instant::now());
         let mesh = pool.install(|| poisson_reconstruction(cloud, &config)).expect("the ring is accepted");
         best = (
-            best.0.min(process_time() - cpu),
+            best.0.min(process_time().as_secs_f64() - cpu),
             best.1.min(wall.elapsed().as_secs_f64()),
             mesh.vertices.len(),
             mesh.faces.len(),

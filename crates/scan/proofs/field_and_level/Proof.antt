@@ -9,6 +9,28 @@ use borrow.Author.Needs.{needs}
 use Rattle.scan.proofs.field_and_level.Statement.{statement}
 use Rattle.scan.proofs.field_and_level.Tie as tie
 
+-- ---- the places: each seen from one further on
+
+abbrev after-side : tie.After-solve-arg7 → tie.After-side
+after-side c = c .before .before .before .before .before .before .before
+
+abbrev after-extent : tie.After-side → tie.After-extent
+after-extent c = c .before .before .before .before .before
+
+abbrev entry : tie.After-extent → tie.Start
+entry c = c .before .before .before .before .before .before .before .before .before .before .before
+
+abbrev after-solve : tie.After-slice-known16 → tie.After-solve
+after-solve c = c .before .before .before .before .before .before .before .before .before .before .before .before .before .before
+
+abbrev after-spacing : tie.After-solve → tie.After-spacing
+after-spacing c = c .before .before .before .before .before .before .before .before .before .before .before .before
+
+abbrev after-origin : tie.After-solve → tie.After-origin
+after-origin c = c .before .before .before .before .before .before .before .before .before
+
+-- ---- the needs
+
 extent-requires : tie.Need-extent-requires
 extent-requires c κs = search needs
 
@@ -23,15 +45,15 @@ side-requires c κs = search needs
 
 solve-requires : tie.Need-solve-requires
 solve-requires c κs =
-    let lent = c .before .before .before .before .before .before .before .before .before .before .before .before .before .before .before .before .before .before .before .before .before .before .before .pre .1 in
-    let n = sym (cubed (c .before .before .before .before .before .before .before .before .before .before .before .before .before .before .before .before .before .before .before .before .before .before .before .args .settings .depth)) in
-    (omega (arith, c .before .before .before .before .before .before .before .before .before .before .before .before .before .before .before .before .before .before .before .before .before .before .before .pre .0 .0, c .before .before .before .before .before .before .before .before .before .before .before .before .before .before .before .before .before .before .before .before .before .before .before .pre .0 .1), (record { of-x = lent .size0 ∙ n; of-b = lent .size2 ∙ n; of-s = lent .size3 ∙ n; of-r = lent .size4 ∙ n; of-p = lent .size5 ∙ n; of-ap = lent .size6 ∙ n }, lent .size1 ∙ n))
+    let lent = entry (after-extent (after-side c)) .pre .1 in
+    let n = sym (cubed (entry (after-extent (after-side c)) .args .settings .depth)) in
+    (omega (arith, entry (after-extent (after-side c)) .pre .0 .0, entry (after-extent (after-side c)) .pre .0 .1), (record { of-x = lent .size0 ∙ n; of-b = lent .size2 ∙ n; of-s = lent .size3 ∙ n; of-r = lent .size4 ∙ n; of-p = lent .size5 ∙ n; of-ap = lent .size6 ∙ n }, lent .size1 ∙ n))
 
 grid-for-requires : tie.Need-grid-for-requires
-grid-for-requires c κs = omega (arith, c .before .before .before .before .before .before .before .before .before .before .before .before .before .before .before .before .before .before .before .before .before .before .before .before .before .before .before .before .before .before .before .before .before .before .before .before .before .before .pre .0 .0, c .before .before .before .before .before .before .before .before .before .before .before .before .before .before .before .before .before .before .before .before .before .before .before .before .before .before .before .before .before .before .before .before .before .before .before .before .before .before .pre .0 .1)
+grid-for-requires c κs = omega (arith, entry (after-extent (after-side (after-solve c .before))) .pre .0 .0, entry (after-extent (after-side (after-solve c .before))) .pre .0 .1)
 
 level-requires : tie.Need-level-requires
-level-requires c κs = (c .before .grid-for .ensures .sides, (c .before .before .before .before .before .before .before .before .before .before .before .before .before .before .before .before .solve .kept .1 .1 .1 .0 ∙ c .before .before .before .before .before .before .before .before .before .before .before .before .before .before .before .before .before .before .before .before .before .before .before .before .before .before .before .before .before .before .before .before .before .before .before .before .before .before .before .before .pre .1 .size0 ∙ sym (nodes-cubed (c .before .grid-for .ensures)), c .before .before .before .before .before .before .before .before .before .before .before .before .before .before .before .before .before .before .before .before .before .before .before .before .before .before .before .before .before .before .before .before .before .before .before .before .before .before .before .before .pre .0 .2))
+level-requires c κs = (c .before .grid-for .ensures .sides, (after-solve (c .before .before) .solve .kept .1 .1 .1 .0 ∙ entry (after-extent (after-side (after-solve (c .before .before) .before))) .pre .1 .size0 ∙ sym (nodes-cubed (c .before .grid-for .ensures)), entry (after-extent (after-side (after-solve (c .before .before) .before))) .pre .0 .2))
 
 same-length : tie.Need-same-length
 same-length c = search needs
@@ -55,17 +77,17 @@ same-length-7 : tie.Need-same-length-7
 same-length-7 c = search needs
 
 same-length-8 : tie.Need-same-length-8
-same-length-8 c = c .before .before .before .before .before .before .before .before .before .before .before .before .before .before .before .before .before .before .before .before .before .before .before .before .before .before .before .before .before .spacing .kept .1 .0
+same-length-8 c = after-spacing (after-solve (c .before .before .before)) .spacing .kept .1 .0
 
 returns : tie.Need-returns
 returns c =
-    let x = c .before .before .before .before .before .before .before .before .before .before .before .before .before .before .before .before .before .before .before .before .before .before .before .before .before .before .before .before .before .before .before .before .before .before .before .before .before .before .before .before .before .args in
+    let x = entry (after-extent (after-side (after-solve (c .before .before .before) .before))) .args in
     let ps = usables (now (x .points)) in
     let st = x .settings in
-    let box = c .before .before .before .before .before .before .before .before .before .before .before .before .before .before .before .before .before .before .before .before .before .before .before .before .before .before .before .before .before .before .before .before .before .before .before .before .before .before .before .before .before .pre .0 .3 in
-    let solved = c .before .before .before .before .before .before .before .before .before .before .before .before .before .before .before .before .before .solve .ensures in
+    let box = entry (after-extent (after-side (after-solve (c .before .before .before) .before))) .pre .0 .3 in
+    let solved = after-solve (c .before .before .before) .solve .ensures in
     let eight = ap zeros32 (cubed (st .depth)) in
-    let field = field-is ps st box (c .before .before .before .before .before .before .before .before .before .before .before .before .before .before .before .before .before .before .before .before .before .before .before .before .before .before .origin .ensures) (c .before .before .before .before .before .before .before .before .before .before .before .before .before .before .before .before .before .before .before .before .before .before .before .before .before .side .ensures) (c .before .before .before .before .before .before .before .before .before .before .before .before .before .before .before .before .before .before .before .before .before .before .before .before .before .before .before .before .before .before .extent .ensures) (c .before .before .before .before .before .before .before .before .before .before .before .before .before .before .before .before .before .before .before .before .before .before .before .before .before .before .before .before .before .spacing .ensures .0) refl refl refl (solved .of-x) in
+    let field = field-is ps st box (after-origin (after-solve (c .before .before .before)) .origin .ensures) (after-side (after-solve (c .before .before .before) .before) .side .ensures) (after-extent (after-side (after-solve (c .before .before .before) .before)) .extent .ensures) (after-spacing (after-solve (c .before .before .before)) .spacing .ensures .0) refl refl refl (solved .of-x) in
     record {
       level-is = level-is ps st (grid-is ps st box (c .before .before .grid-for .ensures)) field (c .level .ensures);
       field = field;
@@ -75,7 +97,7 @@ returns c =
       zero4 = solved .of-r ∙ eight;
       zero5 = solved .of-p ∙ eight;
       zero6 = solved .of-ap ∙ eight;
-      no-distances = c .before .before .before .before .before .before .before .before .before .before .before .before .before .before .before .before .before .before .before .before .before .before .before .before .before .before .before .before .before .spacing .ensures .1;
+      no-distances = after-spacing (after-solve (c .before .before .before)) .spacing .ensures .1;
     }
 
 pub field-and-level-spec : {M : Type 1} → statement M
