@@ -4,7 +4,7 @@ ghost use mathlib.Core.Path.{_≡_};
 ghost use Prim.Native.Nat.{ℕ, _+_, _*_, _≤_, _<_};
 ghost use lib.ListN.{length};
 ghost use Rattle.lists.specs.Lists.{tabulate, at};
-ghost use Rattle.grid.specs.Grid.{Sides};
+ghost use Rattle.grid.specs.Grid.{Sides, allNodes};
 ghost use Rattle.blur.specs.Blur.{movedTo, withTerm, blurTo, blurAt, offsetsOf};
 ghost use Rattle.blur.specs.Inner.{plusTimes, across, Reach, FirstOutside};
 use grid::Grid;
@@ -156,8 +156,8 @@ fn blur_row(
 
 // The pass, row by row.
 pub fn blur_axis(g: Grid, v: &[f32], out: &mut [f32], axis: usize, kernel: &[f32], radius: usize)
-    requires { ⌜ Sides (g .nodes) × (length (now v) ≡ g .nodes * g .nodes * g .nodes) × (length (now out) ≡ g .nodes * g .nodes * g .nodes) × (radius ≤ 18) × (length (now kernel) ≡ offsetsOf radius) ⌝ }
-    ensures { λ _. ⌜ now (out .exit) ≡ tabulate (g .nodes * g .nodes * g .nodes) (blurAt axis (g .nodes) radius (now (kernel .entry)) (now (v .entry))) ⌝ }
+    requires { ⌜ Sides (g .nodes) × (length (now v) ≡ allNodes g) × (length (now out) ≡ allNodes g) × (radius ≤ 18) × (length (now kernel) ≡ offsetsOf radius) ⌝ }
+    ensures { λ _. ⌜ now (out .exit) ≡ tabulate (allNodes g) (blurAt axis (g .nodes) radius (now (kernel .entry)) (now (v .entry))) ⌝ }
 {
     let n = g.nodes;
     let mut row = 0usize;

@@ -9,7 +9,7 @@ use Rattle.lists.specs.Lists.{tabulate, at, zero32, zeros32}
 use Rattle.numbers.specs.Arithmetic.{narrowed}
 use Rattle.grid.specs.declared.Grid.{Grid}
 use Rattle.grid.specs.declared.Cell.{Cell}
-use Rattle.grid.specs.Grid.{cellAt, weightAt, cornerAt, boundaryNode}
+use Rattle.grid.specs.Grid.{cellAt, weightAt, cornerAt, boundaryNode, allNodes}
 use Rattle.points.specs.declared.point.Point.{Point}
 use Rattle.points.specs.Points.{placeOf, unitOf}
 use Rattle.blur.specs.Blur.{sigmaOf, radiusOf, kernelOf, blurred}
@@ -32,7 +32,7 @@ pointAdded g a v p = cornersAdded (g .nodes) (cellAt g (placeOf p)) (at (unitOf 
 
 -- all points, from zeros
 unfoldable pub splatted : (g : Grid) (ps : List Point) (a : ℕ) → List Float
-splatted g ps a = foldl (pointAdded g a) (zeros32 (g .nodes * g .nodes * g .nodes)) ps
+splatted g ps a = foldl (pointAdded g a) (zeros32 (allNodes g)) ps
 
 -- ---- the right side
 
@@ -62,7 +62,7 @@ componentOf g ps radius kernel a = blurred (g .nodes) radius kernel (splatted g 
 unfoldable pub rightSideBy : (g : Grid) (ps : List Point) (radius : ℕ) (kernel : List Float) → List Float
 rightSideBy g ps radius kernel =
     let component = componentOf g ps radius kernel in
-    tabulate (g .nodes * g .nodes * g .nodes) (rightSideAt (g .nodes) (narrowed (g .step)) (component 0) (component 1) (component 2))
+    tabulate (allNodes g) (rightSideAt (g .nodes) (narrowed (g .step)) (component 0) (component 1) (component 2))
 
 unfoldable pub rightSide : (g : Grid) (ps : List Point) (spacing smoothing : Float) → List Float
 rightSide g ps spacing smoothing =

@@ -5,7 +5,7 @@ ghost use Prim.Native.Nat.{_+_, _*_, _≤_, _<_};
 ghost use lib.ListN.{length};
 ghost use Rattle.lists.specs.Lists.{tabulate};
 ghost use Rattle.numbers.specs.Arithmetic.{narrowed};
-ghost use Rattle.grid.specs.Grid.{Sides};
+ghost use Rattle.grid.specs.Grid.{Sides, allNodes};
 ghost use Rattle.field.specs.Field.{slopeAt, rightSideAt};
 ghost use Rattle.field.specs.Inner.{innerAt, rowAt};
 use grid::Grid;
@@ -57,8 +57,8 @@ fn any_row(b: &mut [f32], x: &[f32], y: &[f32], z: &[f32], first: Node, h: f32, 
 
 // Every row, with h narrowed.
 pub fn divergence(g: Grid, x: &[f32], y: &[f32], z: &[f32], b: &mut [f32])
-    requires { ⌜ Sides (g .nodes) × (length (now x) ≡ g .nodes * g .nodes * g .nodes) × (length (now y) ≡ g .nodes * g .nodes * g .nodes) × (length (now z) ≡ g .nodes * g .nodes * g .nodes) × (length (now b) ≡ g .nodes * g .nodes * g .nodes) ⌝ }
-    ensures { λ _. ⌜ now (b .exit) ≡ tabulate (g .nodes * g .nodes * g .nodes) (rightSideAt (g .nodes) (narrowed (g .step)) (now (x .entry)) (now (y .entry)) (now (z .entry))) ⌝ }
+    requires { ⌜ Sides (g .nodes) × (length (now x) ≡ allNodes g) × (length (now y) ≡ allNodes g) × (length (now z) ≡ allNodes g) × (length (now b) ≡ allNodes g) ⌝ }
+    ensures { λ _. ⌜ now (b .exit) ≡ tabulate (allNodes g) (rightSideAt (g .nodes) (narrowed (g .step)) (now (x .entry)) (now (y .entry)) (now (z .entry))) ⌝ }
 {
     let n = g.nodes;
     let h = arith::narrow(g.step);

@@ -7,7 +7,7 @@ ghost use mathlib.Core.Path.{_≡_};
 ghost use Prim.Native.Nat.{_*_, _<_, _≤_};
 ghost use lib.ListN.{length};
 ghost use Rattle.lists.specs.Lists.{zeros32};
-ghost use Rattle.grid.specs.Grid.{Sides};
+ghost use Rattle.grid.specs.Grid.{Sides, allNodes};
 ghost use Rattle.points.specs.Points.{usables};
 ghost use Rattle.blur.specs.Blur.{offsetsOf};
 ghost use Rattle.field.specs.Field.{componentOf, rightSideBy, rightSide};
@@ -24,7 +24,7 @@ fn component(
     s: &mut [f32],
     out: &mut [f32],
 )
-    requires { ⌜ Sides (g .nodes) × (radius ≤ 18) × (length (now kernel) ≡ offsetsOf radius) × (a < 3) × (length (now s) ≡ g .nodes * g .nodes * g .nodes) × (length (now out) ≡ g .nodes * g .nodes * g .nodes) ⌝ }
+    requires { ⌜ Sides (g .nodes) × (radius ≤ 18) × (length (now kernel) ≡ offsetsOf radius) × (a < 3) × (length (now s) ≡ allNodes g) × (length (now out) ≡ allNodes g) ⌝ }
     ensures { λ _. ⌜ now (out .exit) ≡ componentOf g (usables (now (points .entry))) radius (now (kernel .entry)) a ⌝ }
 {
     splat::splat(g, points, a, s);
@@ -43,7 +43,7 @@ fn right_side_by(
     y: &mut [f32],
     z: &mut [f32],
 )
-    requires { ⌜ Sides (g .nodes) × (radius ≤ 18) × (length (now kernel) ≡ offsetsOf radius) × (length (now b) ≡ g .nodes * g .nodes * g .nodes) × (length (now s) ≡ g .nodes * g .nodes * g .nodes) × (length (now x) ≡ g .nodes * g .nodes * g .nodes) × (length (now y) ≡ g .nodes * g .nodes * g .nodes) × (length (now z) ≡ g .nodes * g .nodes * g .nodes) ⌝ }
+    requires { ⌜ Sides (g .nodes) × (radius ≤ 18) × (length (now kernel) ≡ offsetsOf radius) × (length (now b) ≡ allNodes g) × (length (now s) ≡ allNodes g) × (length (now x) ≡ allNodes g) × (length (now y) ≡ allNodes g) × (length (now z) ≡ allNodes g) ⌝ }
     ensures { λ _. ⌜ now (b .exit) ≡ rightSideBy g (usables (now (points .entry))) radius (now (kernel .entry)) ⌝ }
 {
     component(points, g, kernel, radius, 0, s, x);
@@ -64,8 +64,8 @@ pub fn right_side(
     y: &mut [f32],
     z: &mut [f32],
 )
-    requires { ⌜ Sides (g .nodes) × (length (now b) ≡ g .nodes * g .nodes * g .nodes) × (length (now s) ≡ g .nodes * g .nodes * g .nodes) × (length (now x) ≡ g .nodes * g .nodes * g .nodes) × (length (now y) ≡ g .nodes * g .nodes * g .nodes) × (length (now z) ≡ g .nodes * g .nodes * g .nodes) ⌝ }
-    ensures { λ _. ⌜ (now (b .exit) ≡ rightSide g (usables (now (points .entry))) spacing smoothing) × (now (s .exit) ≡ zeros32 (g .nodes * g .nodes * g .nodes)) × (now (x .exit) ≡ zeros32 (g .nodes * g .nodes * g .nodes)) × (now (y .exit) ≡ zeros32 (g .nodes * g .nodes * g .nodes)) × (now (z .exit) ≡ zeros32 (g .nodes * g .nodes * g .nodes)) ⌝ }
+    requires { ⌜ Sides (g .nodes) × (length (now b) ≡ allNodes g) × (length (now s) ≡ allNodes g) × (length (now x) ≡ allNodes g) × (length (now y) ≡ allNodes g) × (length (now z) ≡ allNodes g) ⌝ }
+    ensures { λ _. ⌜ (now (b .exit) ≡ rightSide g (usables (now (points .entry))) spacing smoothing) × (now (s .exit) ≡ zeros32 (allNodes g)) × (now (x .exit) ≡ zeros32 (allNodes g)) × (now (y .exit) ≡ zeros32 (allNodes g)) × (now (z .exit) ≡ zeros32 (allNodes g)) ⌝ }
 {
     let kernel = Kernel::new(Kernel::sigma(smoothing, spacing, g.step));
     let radius = kernel.radius;

@@ -3,7 +3,7 @@ ghost use mathlib.Core.Path.{_≡_};
 ghost use mathlib.Core.Bool.{cond};
 ghost use Prim.Native.Nat.{_*_, _<_};
 ghost use lib.ListN.{length};
-ghost use Rattle.grid.specs.Grid.{Sides, Inside};
+ghost use Rattle.grid.specs.Grid.{Sides, Inside, allNodes};
 ghost use Rattle.points.specs.Points.{usableOf, usables};
 ghost use Rattle.field.specs.Field.{cornerAdded, pointAdded, splatted};
 use grid::Cell;
@@ -12,7 +12,7 @@ use points::Point;
 
 // The narrowed weight·unit at corner c: the product in f64, the sum in f32.
 fn add_corner(v: &mut [f32], g: Grid, cell: Cell, u: f64, c: usize)
-    requires { ⌜ Sides (g .nodes) × Inside (g .nodes) cell × (length (now v) ≡ g .nodes * g .nodes * g .nodes) ⌝ }
+    requires { ⌜ Sides (g .nodes) × Inside (g .nodes) cell × (length (now v) ≡ allNodes g) ⌝ }
     ensures { λ _. ⌜ now (v .exit) ≡ cornerAdded (g .nodes) cell u c (now (v .entry)) ⌝ }
 {
     let q = g.corner(cell, c).place();
@@ -21,7 +21,7 @@ fn add_corner(v: &mut [f32], g: Grid, cell: Cell, u: f64, c: usize)
 
 // A point's unit, component a, at the eight corners of its cell in order.
 fn add_point(v: &mut [f32], g: Grid, p: Point, a: usize)
-    requires { ⌜ Sides (g .nodes) × (length (now v) ≡ g .nodes * g .nodes * g .nodes) × (a < 3) ⌝ }
+    requires { ⌜ Sides (g .nodes) × (length (now v) ≡ allNodes g) × (a < 3) ⌝ }
     ensures { λ _. ⌜ now (v .exit) ≡ pointAdded g a (now (v .entry)) p ⌝ }
 {
     let cell = g.cell(p.place());
@@ -36,7 +36,7 @@ fn add_point(v: &mut [f32], g: Grid, p: Point, a: usize)
 
 // A point that is skipped adds nothing.
 fn add_usable(v: &mut [f32], g: Grid, p: Point, a: usize)
-    requires { ⌜ Sides (g .nodes) × (length (now v) ≡ g .nodes * g .nodes * g .nodes) × (a < 3) ⌝ }
+    requires { ⌜ Sides (g .nodes) × (length (now v) ≡ allNodes g) × (a < 3) ⌝ }
     ensures { λ _. ⌜ now (v .exit) ≡ cond (usableOf p) (pointAdded g a (now (v .entry)) p) (now (v .entry)) ⌝ }
 {
     if p.usable() {
@@ -46,7 +46,7 @@ fn add_usable(v: &mut [f32], g: Grid, p: Point, a: usize)
 
 // All points in order, from zeros.
 pub fn splat(g: Grid, points: &[f32], a: usize, v: &mut [f32])
-    requires { ⌜ Sides (g .nodes) × (length (now v) ≡ g .nodes * g .nodes * g .nodes) × (a < 3) ⌝ }
+    requires { ⌜ Sides (g .nodes) × (length (now v) ≡ allNodes g) × (a < 3) ⌝ }
     ensures { λ _. ⌜ now (v .exit) ≡ splatted g (usables (now (points .entry))) a ⌝ }
 {
     lists::clear_f32(v);

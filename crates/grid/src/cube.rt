@@ -2,7 +2,7 @@
 ghost use mathlib.Core.Path.{_≡_};
 ghost use Prim.Native.Nat.{_*_, _<_, _≤_};
 ghost use lib.ListN.{getD};
-ghost use Rattle.grid.specs.Grid.{Sides, Counts, Position, gridOf, nodeAt, coordsOf, atEnd, onBoundary, boundaryRow, worldOf, latticeOf};
+ghost use Rattle.grid.specs.Grid.{Sides, Counts, Position, gridOf, nodeAt, coordsOf, atEnd, onBoundary, boundaryRow, worldOf, latticeOf, allNodes};
 use crate::Grid;
 use crate::Lattice;
 use crate::Node;
@@ -37,7 +37,7 @@ impl Grid {
     // How many nodes there are.
     pub fn len(self) -> usize
         requires { ⌜ Sides (self .nodes) ⌝ }
-        ensures { λ r. ⌜ r ≡ self .nodes * self .nodes * self .nodes ⌝ }
+        ensures { λ r. ⌜ r ≡ allNodes self ⌝ }
     {
         let n = self.nodes;
         n * n * n

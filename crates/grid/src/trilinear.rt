@@ -2,7 +2,7 @@
 ghost use mathlib.Core.Path.{_≡_};
 ghost use Prim.Native.Nat.{_*_};
 ghost use lib.ListN.{length};
-ghost use Rattle.grid.specs.Grid.{Sides, alongOf, cellAt, Inside, offsetsOf, sideOf, weightAt, cornerAt, sampled};
+ghost use Rattle.grid.specs.Grid.{Sides, alongOf, cellAt, Inside, offsetsOf, sideOf, weightAt, cornerAt, sampled, allNodes};
 use crate::Along;
 use crate::Cell;
 use crate::Grid;
@@ -82,7 +82,7 @@ impl Grid {
     // The trilinear value at a place: weight·value added in corner order, from -0.0 as the Rust's `sum`.
     pub fn sample(self, values: &[f32], p: [f64; 3]) -> f64
         requires { ⌜ Sides (self .nodes) ⌝ }
-        requires { ⌜ length (now values) ≡ self .nodes * self .nodes * self .nodes ⌝ }
+        requires { ⌜ length (now values) ≡ allNodes self ⌝ }
         ensures { λ r. ⌜ r ≡ sampled self (now (values .entry)) p ⌝ }
     {
         let cell = self.cell(p);

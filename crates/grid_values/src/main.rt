@@ -3,7 +3,7 @@
 ghost use mathlib.Core.Path.{_≡_};
 ghost use Prim.Native.Nat.{_*_, _<_, _≤_};
 ghost use lib.ListN.{length};
-ghost use Rattle.grid.specs.Grid.{Sides};
+ghost use Rattle.grid.specs.Grid.{Sides, allNodes};
 use grid::Grid;
 use libc::STDOUT_FILENO;
 
@@ -129,7 +129,7 @@ fn offset(t: usize) -> f64 {
 // The sample at the place with the coordinates a, b and 3a+b of their axes.
 fn sample(g: Grid, values: &[f32], a: usize, b: usize)
     requires { ⌜ Sides (g .nodes) ⌝ }
-    requires { ⌜ length (now values) ≡ g .nodes * g .nodes * g .nodes ⌝ }
+    requires { ⌜ length (now values) ≡ allNodes g ⌝ }
     requires { ⌜ (a < 14) × (b < 14) ⌝ }
 {
     let o = g.origin;
@@ -145,7 +145,7 @@ fn sample(g: Grid, values: &[f32], a: usize, b: usize)
 // The samples of one y.
 fn row(g: Grid, values: &[f32], b: usize)
     requires { ⌜ Sides (g .nodes) ⌝ }
-    requires { ⌜ length (now values) ≡ g .nodes * g .nodes * g .nodes ⌝ }
+    requires { ⌜ length (now values) ≡ allNodes g ⌝ }
     requires { ⌜ b < 14 ⌝ }
 {
     let mut a = 0usize;
@@ -159,7 +159,7 @@ fn row(g: Grid, values: &[f32], b: usize)
 // The samples of all.
 fn rows(g: Grid, values: &[f32])
     requires { ⌜ Sides (g .nodes) ⌝ }
-    requires { ⌜ length (now values) ≡ g .nodes * g .nodes * g .nodes ⌝ }
+    requires { ⌜ length (now values) ≡ allNodes g ⌝ }
 {
     let mut b = 0usize;
     while b < 14 {
@@ -173,7 +173,7 @@ fn rows(g: Grid, values: &[f32])
 // The grid of a depth. Its step is no exact number but for depth 1.
 fn cube(depth: u32) -> Grid
     requires { ⌜ (1 ≤ depth) × (depth ≤ 3) ⌝ }
-    ensures { λ r. ⌜ Sides (r .nodes) × (r .nodes * r .nodes * r .nodes ≤ 512) ⌝ }
+    ensures { λ r. ⌜ Sides (r .nodes) × (allNodes r ≤ 512) ⌝ }
 {
     Grid::new([-1.0, 0.5, 0.1], 2.5, depth)
 }

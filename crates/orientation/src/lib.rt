@@ -7,7 +7,7 @@ ghost use mathlib.Core.List.{map};
 ghost use Prim.Native.Nat.{_*_, _<_};
 ghost use lib.ListN.{length};
 ghost use Rattle.closed.specs.Faces as Flat;
-ghost use Rattle.grid.specs.Grid.{Sides};
+ghost use Rattle.grid.specs.Grid.{Sides, allNodes};
 ghost use Rattle.orientation.specs.Orientation.{vertexCount, faceCount, Meshed, Corners, gainAt, signAt, strideOf, agreementOf, orientedFaces};
 use grid::Grid;
 pub use triangle::centre;
@@ -19,7 +19,7 @@ pub use triangle::write_face;
 // What the field gains along an axis, half a step to either side of a place.
 fn gain(g: Grid, values: &[f32], p: [f64; 3], axis: usize) -> f64
     requires { ⌜ Sides (g .nodes) ⌝ }
-    requires { ⌜ length (now values) ≡ g .nodes * g .nodes * g .nodes ⌝ }
+    requires { ⌜ length (now values) ≡ allNodes g ⌝ }
     requires { ⌜ axis < 3 ⌝ }
     ensures { λ r. ⌜ r ≡ gainAt g (now (values .entry)) p axis ⌝ }
 {
@@ -34,7 +34,7 @@ fn gain(g: Grid, values: &[f32], p: [f64; 3], axis: usize) -> f64
 // The sign of normal · gradient at a face's centre, in f64.
 fn sign_at(g: Grid, values: &[f32], vertices: &[f32], face: [u32; 3]) -> f64
     requires { ⌜ Sides (g .nodes) ⌝ }
-    requires { ⌜ length (now values) ≡ g .nodes * g .nodes * g .nodes ⌝ }
+    requires { ⌜ length (now values) ≡ allNodes g ⌝ }
     requires { ⌜ Corners (vertexCount (now vertices)) face ⌝ }
     ensures { λ r. ⌜ r ≡ signAt g (now (values .entry)) (now (vertices .entry)) (Flat.faceOf face) ⌝ }
 {
@@ -58,7 +58,7 @@ fn stride(count: usize) -> usize
 // The sum of the signs of the faces 0, s, 2s.., from -0.0.
 fn agreement(g: Grid, values: &[f32], vertices: &[f32], faces: &[u32]) -> f64
     requires { ⌜ Sides (g .nodes) ⌝ }
-    requires { ⌜ length (now values) ≡ g .nodes * g .nodes * g .nodes ⌝ }
+    requires { ⌜ length (now values) ≡ allNodes g ⌝ }
     requires { ⌜ Meshed (now vertices) (now faces) ⌝ }
     ensures { λ r. ⌜ r ≡ agreementOf g (now (values .entry)) (now (vertices .entry)) (Flat.faces (now (faces .entry))) ⌝ }
 {
@@ -91,7 +91,7 @@ fn turn_all(faces: &mut [u32])
 // Makes the faces look where the field grows: a sum below zero turns them all. A NaN sum is not below, and turns nothing.
 pub fn orient(g: Grid, values: &[f32], vertices: &[f32], faces: &mut [u32])
     requires { ⌜ Sides (g .nodes) ⌝ }
-    requires { ⌜ length (now values) ≡ g .nodes * g .nodes * g .nodes ⌝ }
+    requires { ⌜ length (now values) ≡ allNodes g ⌝ }
     requires { ⌜ Meshed (now vertices) (now faces) ⌝ }
     ensures { λ _. ⌜ now (faces .exit) ≡ Flat.corners (orientedFaces g (now (values .entry)) (now (vertices .entry)) (Flat.faces (now (faces .entry)))) ⌝ }
 {

@@ -5,7 +5,7 @@ use Prim.Native.Nat.{ℕ, _*_, _^_, _≤_}
 use lib.ListN.{length, take}
 use lib.Ieee.{Float}
 use Rattle.grid.specs.declared.Grid.{Grid}
-use Rattle.grid.specs.Grid.{Sides}
+use Rattle.grid.specs.Grid.{Sides, allNodes}
 use Rattle.points.specs.declared.point.Point.{Point}
 use Rattle.points.specs.Points.{given}
 use Rattle.settings.specs.declared.Answer.{Answer}
@@ -40,7 +40,7 @@ pub record Workable (xs : List Float) (st : Settings) (lent : Lengths) (vs : Lis
 pub record Finishable (ps : List Point) (st : Settings) (lent : Lengths) (g : Grid) (found : Found) (vs : List Float) (fs : List ℕ) (s0 a b c : List Float) (edges : List ℕ) : Type 0 where
   pub grid : g ≡ gridFor ps st
   pub sides : Sides (g .nodes)
-  pub depth : g .nodes * g .nodes * g .nodes ≡ 8 ^ st .depth
+  pub depth : allNodes g ≡ 8 ^ st .depth
   pub v-lent : lent .vertices ≡ length vs
   pub f-lent : lent .faces ≡ length fs
   pub level-is : found .level ≡ levelFor ps st

@@ -8,7 +8,7 @@ use lib.ListN.{length}
 use lib.Ieee.{Float}
 use Rattle.grid.specs.declared.Grid.{Grid}
 use Rattle.grid.specs.declared.Lattice.{Lattice}
-use Rattle.grid.specs.Grid.{Sides, Counts, gridOf, latticeOf}
+use Rattle.grid.specs.Grid.{Sides, Counts, gridOf, latticeOf, allNodes}
 use Rattle.points.specs.declared.point.Point.{Point}
 use Rattle.points.specs.declared.bounds.Bounds.{Bounds}
 use Rattle.points.specs.Box.{boundsOf, extentOf, sideOf, originOf}
@@ -35,11 +35,11 @@ cubed (suc d) =
     let three : 4 * (t * t) * (2 * t) ≡ 8 * (t * t * t) = mul-mul-mul-comm 4 (t * t) 2 t in
     ap (λ (k : ℕ). k * k * k) twice ∙ ap (λ (k : ℕ). k * (2 * t)) two ∙ three ∙ ap (λ (k : ℕ). 8 * k) (cubed d) ∙ sym (pow-succ' 8 d)
 
-pub nodes-cubed : {b : Bounds} {st : Settings} {g : Grid} → GridOver b st g → g .nodes * g .nodes * g .nodes ≡ 8 ^ st .depth
+pub nodes-cubed : {b : Bounds} {st : Settings} {g : Grid} → GridOver b st g → allNodes g ≡ 8 ^ st .depth
 unfolding gridOf
-nodes-cubed {b} {st} {g} o = ap (λ (h : Grid). h .nodes * h .nodes * h .nodes) (o .is) ∙ cubed (st .depth)
+nodes-cubed {b} {st} {g} o = ap (λ (h : Grid). allNodes h) (o .is) ∙ cubed (st .depth)
 
-pub lattice-size : (g : Grid) {l : Lattice} → l ≡ latticeOf g → countX l * countY l * countZ l ≡ g .nodes * g .nodes * g .nodes
+pub lattice-size : (g : Grid) {l : Lattice} → l ≡ latticeOf g → countX l * countY l * countZ l ≡ allNodes g
 unfolding latticeOf
 lattice-size g {l} e = ap (λ (m : Lattice). countX m * countY m * countZ m) e
 

@@ -8,7 +8,7 @@ use lib.Ieee.{Float}
 use Rattle.lists.specs.Lists.{zero32, zeros32, zerosU, padded}
 use Rattle.closed.specs.Faces.{corners}
 use Rattle.grid.specs.declared.Grid.{Grid}
-use Rattle.grid.specs.Grid.{Sides, gridOf}
+use Rattle.grid.specs.Grid.{Sides, gridOf, allNodes}
 use Rattle.points.specs.declared.point.Point.{Point}
 use Rattle.points.specs.declared.bounds.Bounds.{Bounds}
 use Rattle.points.specs.Box.{sideOf, originOf}
@@ -62,7 +62,7 @@ pub record Prepared (ps : List Point) (st : Settings) (r : Found) (s0′ s1′ s
 pub record Drawable (ps : List Point) (st : Settings) (g : Grid) (level : Float) (vs : List Float) (fs : List ℕ) (s0 a b c : List Float) (edges : List ℕ) : Type 0 where
   pub grid : g ≡ gridFor ps st
   pub sides : Sides (g .nodes)
-  pub depth : g .nodes * g .nodes * g .nodes ≡ 8 ^ st .depth
+  pub depth : allNodes g ≡ 8 ^ st .depth
   pub level-is : level ≡ levelFor ps st
   pub places : length vs ≡ 3 * vertexTotal ps st
   pub triples : length fs ≡ 3 * faceTotal ps st

@@ -15,9 +15,10 @@ use borrow.Author.Needs.{needs}
 use native.Mathlib.Omega.{arith}
 use Rattle.field.proofs.splat.splat.Statement.{statement}
 use Rattle.field.proofs.splat.splat.Tie as tie
+use Rattle.grid.specs.Grid.{allNodes}
 
 abbrev Inv-loop : tie.InvT-loop
-Inv-loop g points a v₀ all i₀ v i = Folded (pointAdded g a) (zeros32 (g .nodes * g .nodes * g .nodes)) points v i × (length v ≡ g .nodes * g .nodes * g .nodes)
+Inv-loop g points a v₀ all i₀ v i = Folded (pointAdded g a) (zeros32 (allNodes g)) points v i × (length v ≡ allNodes g)
 
 abbrev μ-loop : tie.MeasureT-loop
 μ-loop g points a v₀ all i₀ v i = all - i
@@ -33,7 +34,7 @@ loop-holds c =
     let s = c .before .before .before .before .before .before .before in
     let g = s .args .g in
     let zeros = c .before .before .before .clear-f32 .ensures ∙ ap zeros32 (s .pre .1) in
-    (subst (λ (v : List Float). Folded (pointAdded g (s .args .a)) (zeros32 (g .nodes * g .nodes * g .nodes)) (now (s .args .points)) v 0) (sym zeros) folded-none, ap length zeros ∙ length-replicate _ _)
+    (subst (λ (v : List Float). Folded (pointAdded g (s .args .a)) (zeros32 (allNodes g)) (now (s .args .points)) v 0) (sym zeros) folded-none, ap length zeros ∙ length-replicate _ _)
 
 read-requires : tie.Need-read-requires Inv-loop μ-loop
 read-requires c κs = rw (← c .before .before .before .given .ensures) (omega arith)
