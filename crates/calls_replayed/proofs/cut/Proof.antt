@@ -7,6 +7,19 @@ use borrow.Author.Needs.{needs}
 use Rattle.calls_replayed.proofs.cut.Statement.{statement}
 use Rattle.calls_replayed.proofs.cut.Tie as tie
 
+-- ---- the places: the call, the lengths that were asked for, and the entry, seen from behind the call
+
+abbrev called : tie.After-slice-known22 → tie.After-cut-grids
+called c = c .before .before .before .before .before .before .before .before .before .before .before .before .before .before .before .before .before .before .before .before .before .before
+
+abbrev measured : tie.After-slice-known22 → tie.After-at-most4
+measured c = called c .before .before .before .before .before .before .before .before .before .before .before .before
+
+abbrev entry : tie.After-slice-known22 → tie.Start
+entry c = measured c .before .before .before .before .before .before .before .before .before .before .before .before .before .before .before .before
+
+-- ---- the needs
+
 array-read-at-most : tie.Need-array-read-at-most
 array-read-at-most c = search needs
 
@@ -60,48 +73,48 @@ cut-grids-requires c κs = search needs
 
 same-length : tie.Need-same-length
 same-length c =
-    let done = c .before .before .before .before .before .before .before .before .before .before .before .before .before .before .before .before .before .before .before .before .before .before .cut-grids in
-    let n = c .before .before .before .before .before .before .before .before .before .before .before .before .before .before .before .before .before .before .before .before .before .before .before .before .before .before .before .before .before .before .before .before .before .before .before .at-most3 in
-    rejoined (n .result) (now (c .before .before .before .before .before .before .before .before .before .before .before .before .before .before .before .before .before .before .before .before .before .before .before .before .before .before .before .before .before .before .before .before .before .before .before .before .before .before .before .before .before .before .before .before .before .before .before .before .before .before .args .vertices)) (done .last .1 .1 .1 .0) (done .kept .1 .1 .1 .0) (n .ensures)
+    let done = called c .cut-grids in
+    let n = measured c .before .at-most3 in
+    rejoined (n .result) (now (entry c .args .vertices)) (done .last .1 .1 .1 .0) (done .kept .1 .1 .1 .0) (n .ensures)
 
 same-length-2 : tie.Need-same-length-2
 same-length-2 c =
-    let done = c .before .before .before .before .before .before .before .before .before .before .before .before .before .before .before .before .before .before .before .before .before .before .cut-grids in
-    let n = c .before .before .before .before .before .before .before .before .before .before .before .before .before .before .before .before .before .before .before .before .before .before .before .before .before .before .before .before .before .before .before .before .before .before .at-most4 in
-    rejoined (n .result) (now (c .before .before .before .before .before .before .before .before .before .before .before .before .before .before .before .before .before .before .before .before .before .before .before .before .before .before .before .before .before .before .before .before .before .before .before .before .before .before .before .before .before .before .before .before .before .before .before .before .before .before .args .faces)) (done .last .1 .1 .1 .1 .0) (done .kept .1 .1 .1 .1 .0) (n .ensures)
+    let done = called c .cut-grids in
+    let n = measured c .at-most4 in
+    rejoined (n .result) (now (entry c .args .faces)) (done .last .1 .1 .1 .1 .0) (done .kept .1 .1 .1 .1 .0) (n .ensures)
 
 same-length-3 : tie.Need-same-length-3
-same-length-3 c = c .before .before .before .before .before .before .before .before .before .before .before .before .before .before .before .before .before .before .before .before .before .before .cut-grids .kept .1 .1 .1 .1 .1 .0
+same-length-3 c = called c .cut-grids .kept .1 .1 .1 .1 .1 .0
 
 same-length-4 : tie.Need-same-length-4
-same-length-4 c = c .before .before .before .before .before .before .before .before .before .before .before .before .before .before .before .before .before .before .before .before .before .before .cut-grids .kept .1 .1 .1 .1 .1 .1 .0
+same-length-4 c = called c .cut-grids .kept .1 .1 .1 .1 .1 .1 .0
 
 same-length-5 : tie.Need-same-length-5
-same-length-5 c = c .before .before .before .before .before .before .before .before .before .before .before .before .before .before .before .before .before .before .before .before .before .before .cut-grids .kept .1 .1 .1 .1 .1 .1 .1 .0
+same-length-5 c = called c .cut-grids .kept .1 .1 .1 .1 .1 .1 .1 .0
 
 same-length-6 : tie.Need-same-length-6
-same-length-6 c = c .before .before .before .before .before .before .before .before .before .before .before .before .before .before .before .before .before .before .before .before .before .before .cut-grids .kept .1 .1 .1 .1 .1 .1 .1 .1 .0
+same-length-6 c = called c .cut-grids .kept .1 .1 .1 .1 .1 .1 .1 .1 .0
 
 same-length-7 : tie.Need-same-length-7
-same-length-7 c = c .before .before .before .before .before .before .before .before .before .before .before .before .before .before .before .before .before .before .before .before .before .before .cut-grids .kept .1 .1 .1 .1 .1 .1 .1 .1 .1 .0
+same-length-7 c = called c .cut-grids .kept .1 .1 .1 .1 .1 .1 .1 .1 .1 .0
 
 same-length-8 : tie.Need-same-length-8
-same-length-8 c = c .before .before .before .before .before .before .before .before .before .before .before .before .before .before .before .before .before .before .before .before .before .before .cut-grids .kept .1 .1 .1 .1 .1 .1 .1 .1 .1 .1 .0
+same-length-8 c = called c .cut-grids .kept .1 .1 .1 .1 .1 .1 .1 .1 .1 .1 .0
 
 same-length-9 : tie.Need-same-length-9
-same-length-9 c = c .before .before .before .before .before .before .before .before .before .before .before .before .before .before .before .before .before .before .before .before .before .before .cut-grids .kept .1 .1 .1 .1 .1 .1 .1 .1 .1 .1 .1 .0
+same-length-9 c = called c .cut-grids .kept .1 .1 .1 .1 .1 .1 .1 .1 .1 .1 .1 .0
 
 same-length-10 : tie.Need-same-length-10
 same-length-10 c =
-    let done = c .before .before .before .before .before .before .before .before .before .before .before .before .before .before .before .before .before .before .before .before .before .before .cut-grids in
-    let n = c .before .before .before .before .before .before .before .before .before .before .before .before .before .before .before .before .before .before .before .before .before .before .before .before .before .before .before .before .before .before .before .before .before .before .before .before .before .at-most in
-    rejoined (n .result) (now (c .before .before .before .before .before .before .before .before .before .before .before .before .before .before .before .before .before .before .before .before .before .before .before .before .before .before .before .before .before .before .before .before .before .before .before .before .before .before .before .before .before .before .before .before .before .before .before .before .before .before .args .edges)) (done .last .1 .1 .1 .1 .1 .1 .1 .1 .1 .1 .1 .1 .0) (done .kept .1 .1 .1 .1 .1 .1 .1 .1 .1 .1 .1 .1 .0) (n .ensures)
+    let done = called c .cut-grids in
+    let n = measured c .before .before .before .at-most in
+    rejoined (n .result) (now (entry c .args .edges)) (done .last .1 .1 .1 .1 .1 .1 .1 .1 .1 .1 .1 .1 .0) (done .kept .1 .1 .1 .1 .1 .1 .1 .1 .1 .1 .1 .1 .0) (n .ensures)
 
 same-length-11 : tie.Need-same-length-11
 same-length-11 c =
-    let done = c .before .before .before .before .before .before .before .before .before .before .before .before .before .before .before .before .before .before .before .before .before .before .cut-grids in
-    let n = c .before .before .before .before .before .before .before .before .before .before .before .before .before .before .before .before .before .before .before .before .before .before .before .before .before .before .before .before .before .before .before .before .before .before .before .before .at-most2 in
-    rejoined (n .result) (now (c .before .before .before .before .before .before .before .before .before .before .before .before .before .before .before .before .before .before .before .before .before .before .before .before .before .before .before .before .before .before .before .before .before .before .before .before .before .before .before .before .before .before .before .before .before .before .before .before .before .before .args .distances)) (done .last .1 .1 .1 .1 .1 .1 .1 .1 .1 .1 .1 .1 .1 .0) (done .kept .1 .1 .1 .1 .1 .1 .1 .1 .1 .1 .1 .1 .1 .0) (n .ensures)
+    let done = called c .cut-grids in
+    let n = measured c .before .before .at-most2 in
+    rejoined (n .result) (now (entry c .args .distances)) (done .last .1 .1 .1 .1 .1 .1 .1 .1 .1 .1 .1 .1 .1 .0) (done .kept .1 .1 .1 .1 .1 .1 .1 .1 .1 .1 .1 .1 .1 .0) (n .ensures)
 
 returns : tie.Need-returns
 returns c = search needs

@@ -7,6 +7,19 @@ use borrow.Author.Needs.{needs}
 use Rattle.calls_replayed.proofs.cut_grids.Statement.{statement}
 use Rattle.calls_replayed.proofs.cut_grids.Tie as tie
 
+-- ---- the places: the call, the lengths that were asked for, and the entry, seen from behind the call
+
+abbrev called : tie.After-slice-known22 → tie.After-ask
+called c = c .before .before .before .before .before .before .before .before .before .before .before .before .before .before .before .before .before .before .before .before .before .before
+
+abbrev measured : tie.After-slice-known22 → tie.After-at-most7
+measured c = called c .before .before .before .before .before .before .before .before .before .before .before .before
+
+abbrev entry : tie.After-slice-known22 → tie.Start
+entry c = measured c .before .before .before .before .before .before .before .before .before .before .before .before .before .before .before .before .before .before .before
+
+-- ---- the needs
+
 array-read-at-most : tie.Need-array-read-at-most
 array-read-at-most c = search needs
 
@@ -95,58 +108,58 @@ ask-requires : tie.Need-ask-requires
 ask-requires c κs = search needs
 
 same-length : tie.Need-same-length
-same-length c = c .before .before .before .before .before .before .before .before .before .before .before .before .before .before .before .before .before .before .before .before .before .before .ask .kept .1 .1 .0
+same-length c = called c .ask .kept .1 .1 .0
 
 same-length-2 : tie.Need-same-length-2
-same-length-2 c = c .before .before .before .before .before .before .before .before .before .before .before .before .before .before .before .before .before .before .before .before .before .before .ask .kept .1 .1 .1 .0
+same-length-2 c = called c .ask .kept .1 .1 .1 .0
 
 same-length-3 : tie.Need-same-length-3
 same-length-3 c =
-    let done = c .before .before .before .before .before .before .before .before .before .before .before .before .before .before .before .before .before .before .before .before .before .before .ask in
-    let n = c .before .before .before .before .before .before .before .before .before .before .before .before .before .before .before .before .before .before .before .before .before .before .before .before .before .before .before .before .before .before .before .before .before .before .before .before .before .before .before .before .at-most in
-    rejoined (n .result) (now (c .before .before .before .before .before .before .before .before .before .before .before .before .before .before .before .before .before .before .before .before .before .before .before .before .before .before .before .before .before .before .before .before .before .before .before .before .before .before .before .before .before .before .before .before .before .before .before .before .before .before .before .before .before .args .s0)) (done .last .1 .1 .1 .1 .0) (done .kept .1 .1 .1 .1 .0) (n .ensures)
+    let done = called c .ask in
+    let n = measured c .before .before .before .before .before .before .at-most in
+    rejoined (n .result) (now (entry c .args .s0)) (done .last .1 .1 .1 .1 .0) (done .kept .1 .1 .1 .1 .0) (n .ensures)
 
 same-length-4 : tie.Need-same-length-4
 same-length-4 c =
-    let done = c .before .before .before .before .before .before .before .before .before .before .before .before .before .before .before .before .before .before .before .before .before .before .ask in
-    let n = c .before .before .before .before .before .before .before .before .before .before .before .before .before .before .before .before .before .before .before .before .before .before .before .before .before .before .before .before .before .before .before .before .before .before .before .before .before .before .before .at-most2 in
-    rejoined (n .result) (now (c .before .before .before .before .before .before .before .before .before .before .before .before .before .before .before .before .before .before .before .before .before .before .before .before .before .before .before .before .before .before .before .before .before .before .before .before .before .before .before .before .before .before .before .before .before .before .before .before .before .before .before .before .before .args .s1)) (done .last .1 .1 .1 .1 .1 .0) (done .kept .1 .1 .1 .1 .1 .0) (n .ensures)
+    let done = called c .ask in
+    let n = measured c .before .before .before .before .before .at-most2 in
+    rejoined (n .result) (now (entry c .args .s1)) (done .last .1 .1 .1 .1 .1 .0) (done .kept .1 .1 .1 .1 .1 .0) (n .ensures)
 
 same-length-5 : tie.Need-same-length-5
 same-length-5 c =
-    let done = c .before .before .before .before .before .before .before .before .before .before .before .before .before .before .before .before .before .before .before .before .before .before .ask in
-    let n = c .before .before .before .before .before .before .before .before .before .before .before .before .before .before .before .before .before .before .before .before .before .before .before .before .before .before .before .before .before .before .before .before .before .before .before .before .before .before .at-most3 in
-    rejoined (n .result) (now (c .before .before .before .before .before .before .before .before .before .before .before .before .before .before .before .before .before .before .before .before .before .before .before .before .before .before .before .before .before .before .before .before .before .before .before .before .before .before .before .before .before .before .before .before .before .before .before .before .before .before .before .before .before .args .s2)) (done .last .1 .1 .1 .1 .1 .1 .0) (done .kept .1 .1 .1 .1 .1 .1 .0) (n .ensures)
+    let done = called c .ask in
+    let n = measured c .before .before .before .before .at-most3 in
+    rejoined (n .result) (now (entry c .args .s2)) (done .last .1 .1 .1 .1 .1 .1 .0) (done .kept .1 .1 .1 .1 .1 .1 .0) (n .ensures)
 
 same-length-6 : tie.Need-same-length-6
 same-length-6 c =
-    let done = c .before .before .before .before .before .before .before .before .before .before .before .before .before .before .before .before .before .before .before .before .before .before .ask in
-    let n = c .before .before .before .before .before .before .before .before .before .before .before .before .before .before .before .before .before .before .before .before .before .before .before .before .before .before .before .before .before .before .before .before .before .before .before .before .before .at-most4 in
-    rejoined (n .result) (now (c .before .before .before .before .before .before .before .before .before .before .before .before .before .before .before .before .before .before .before .before .before .before .before .before .before .before .before .before .before .before .before .before .before .before .before .before .before .before .before .before .before .before .before .before .before .before .before .before .before .before .before .before .before .args .s3)) (done .last .1 .1 .1 .1 .1 .1 .1 .0) (done .kept .1 .1 .1 .1 .1 .1 .1 .0) (n .ensures)
+    let done = called c .ask in
+    let n = measured c .before .before .before .at-most4 in
+    rejoined (n .result) (now (entry c .args .s3)) (done .last .1 .1 .1 .1 .1 .1 .1 .0) (done .kept .1 .1 .1 .1 .1 .1 .1 .0) (n .ensures)
 
 same-length-7 : tie.Need-same-length-7
 same-length-7 c =
-    let done = c .before .before .before .before .before .before .before .before .before .before .before .before .before .before .before .before .before .before .before .before .before .before .ask in
-    let n = c .before .before .before .before .before .before .before .before .before .before .before .before .before .before .before .before .before .before .before .before .before .before .before .before .before .before .before .before .before .before .before .before .before .before .before .before .at-most5 in
-    rejoined (n .result) (now (c .before .before .before .before .before .before .before .before .before .before .before .before .before .before .before .before .before .before .before .before .before .before .before .before .before .before .before .before .before .before .before .before .before .before .before .before .before .before .before .before .before .before .before .before .before .before .before .before .before .before .before .before .before .args .s4)) (done .last .1 .1 .1 .1 .1 .1 .1 .1 .0) (done .kept .1 .1 .1 .1 .1 .1 .1 .1 .0) (n .ensures)
+    let done = called c .ask in
+    let n = measured c .before .before .at-most5 in
+    rejoined (n .result) (now (entry c .args .s4)) (done .last .1 .1 .1 .1 .1 .1 .1 .1 .0) (done .kept .1 .1 .1 .1 .1 .1 .1 .1 .0) (n .ensures)
 
 same-length-8 : tie.Need-same-length-8
 same-length-8 c =
-    let done = c .before .before .before .before .before .before .before .before .before .before .before .before .before .before .before .before .before .before .before .before .before .before .ask in
-    let n = c .before .before .before .before .before .before .before .before .before .before .before .before .before .before .before .before .before .before .before .before .before .before .before .before .before .before .before .before .before .before .before .before .before .before .before .at-most6 in
-    rejoined (n .result) (now (c .before .before .before .before .before .before .before .before .before .before .before .before .before .before .before .before .before .before .before .before .before .before .before .before .before .before .before .before .before .before .before .before .before .before .before .before .before .before .before .before .before .before .before .before .before .before .before .before .before .before .before .before .before .args .s5)) (done .last .1 .1 .1 .1 .1 .1 .1 .1 .1 .0) (done .kept .1 .1 .1 .1 .1 .1 .1 .1 .1 .0) (n .ensures)
+    let done = called c .ask in
+    let n = measured c .before .at-most6 in
+    rejoined (n .result) (now (entry c .args .s5)) (done .last .1 .1 .1 .1 .1 .1 .1 .1 .1 .0) (done .kept .1 .1 .1 .1 .1 .1 .1 .1 .1 .0) (n .ensures)
 
 same-length-9 : tie.Need-same-length-9
 same-length-9 c =
-    let done = c .before .before .before .before .before .before .before .before .before .before .before .before .before .before .before .before .before .before .before .before .before .before .ask in
-    let n = c .before .before .before .before .before .before .before .before .before .before .before .before .before .before .before .before .before .before .before .before .before .before .before .before .before .before .before .before .before .before .before .before .before .before .at-most7 in
-    rejoined (n .result) (now (c .before .before .before .before .before .before .before .before .before .before .before .before .before .before .before .before .before .before .before .before .before .before .before .before .before .before .before .before .before .before .before .before .before .before .before .before .before .before .before .before .before .before .before .before .before .before .before .before .before .before .before .before .before .args .s6)) (done .last .1 .1 .1 .1 .1 .1 .1 .1 .1 .1 .0) (done .kept .1 .1 .1 .1 .1 .1 .1 .1 .1 .1 .0) (n .ensures)
+    let done = called c .ask in
+    let n = measured c .at-most7 in
+    rejoined (n .result) (now (entry c .args .s6)) (done .last .1 .1 .1 .1 .1 .1 .1 .1 .1 .1 .0) (done .kept .1 .1 .1 .1 .1 .1 .1 .1 .1 .1 .0) (n .ensures)
 
 same-length-10 : tie.Need-same-length-10
-same-length-10 c = c .before .before .before .before .before .before .before .before .before .before .before .before .before .before .before .before .before .before .before .before .before .before .ask .kept .1 .1 .1 .1 .1 .1 .1 .1 .1 .1 .1 .0
+same-length-10 c = called c .ask .kept .1 .1 .1 .1 .1 .1 .1 .1 .1 .1 .1 .0
 
 same-length-11 : tie.Need-same-length-11
-same-length-11 c = c .before .before .before .before .before .before .before .before .before .before .before .before .before .before .before .before .before .before .before .before .before .before .ask .kept .1 .1 .1 .1 .1 .1 .1 .1 .1 .1 .1 .1 .0
+same-length-11 c = called c .ask .kept .1 .1 .1 .1 .1 .1 .1 .1 .1 .1 .1 .1 .0
 
 returns : tie.Need-returns
 returns c = search needs

@@ -56,9 +56,12 @@ same-length-10 c = search needs
 
 returns : tie.Need-returns
 returns c =
-    let x = c .before .before .before .before .before .before .before .before .before .before .before .before .before .before .before .before .before .before .before .before .before .before .before .before .before .before .before .before .before .before .before .before .before .before .before .before .before .before .before .before .before .before .before .before .before .before .before .args in
-    let same = ap (λ (st : Settings). fieldResults (now (x .points)) st (fieldLengths (now (x .s0)) (now (x .s1)) (now (x .s2)) (now (x .s3)) (now (x .s4)) (now (x .s5)) (now (x .s6)) (now (x .edges)) (now (x .distances))) (length (now (x .field)))) (c .before .before .before .before .before .before .before .before .before .before .before .before .before .before .before .before .before .before .before .before .before .before .before .before .before .before .before .before .before .before .before .before .before .before .before .settings-from .ensures) in
-    let done = c .before .before .before .before .before .before .before .before .before .before .before .before .before .before .before .before .before .before .before .before .before .before .before .before .poisson-field .ensures in
+    let made = c .before .before .before .before .before .before .before .before .before .before .before .before .before .before .before .before .before .before .before .before .before .before .before .before in
+    let given = made .before .before .before .before .before .before .before .before .before .before .before in
+    let x = given .before .before .before .before .before .before .before .before .before .before .before .before .args in
+    let lengths = fieldLengths (now (x .s0)) (now (x .s1)) (now (x .s2)) (now (x .s3)) (now (x .s4)) (now (x .s5)) (now (x .s6)) (now (x .edges)) (now (x .distances)) in
+    let same = ap (λ (st : Settings). fieldResults (now (x .points)) st lengths (length (now (x .field)))) (given .settings-from .ensures) in
+    let done = made .poisson-field .ensures in
     let answered = done .answered ∙ ap (λ (d : FieldResults). d .answer) same in
     record {
       number-is = ap (λ (a : Answer). a .number) answered;

@@ -1,5 +1,5 @@
 -- What is done is told: the answer's fields, and the slices as the call left them.
-use mathlib.Core.Path.{_≡_, ap, _∙_}
+use mathlib.Core.Path.{ap, _∙_}
 use Rattle.settings.specs.declared.Answer.{Answer}
 use Rattle.capi.specs.Flat.{countsOf, valuesOf}
 use denote.Ref.{now}
@@ -58,8 +58,11 @@ same-length-11 c = search needs
 
 returns : tie.Need-returns
 returns c =
-    let x = c .before .before .before .before .before .before .before .before .before .before .before .before .before .before .before .before .before .before .before .before .before .before .before .before .before .before .before .before .before .before .before .before .before .before .before .before .before .before .before .before .before .before .before .before .before .before .before .before .before .before .before .args in
-    let done = carry (ap (λ (st : Settings). reconstructed (now (x .points)) st (lengthsOf (now (x .vertices)) (now (x .faces)) (now (x .s0)) (now (x .s1)) (now (x .s2)) (now (x .s3)) (now (x .s4)) (now (x .s5)) (now (x .s6)) (now (x .edges)) (now (x .distances)))) (c .before .before .before .before .before .before .before .before .before .before .before .before .before .before .before .before .before .before .before .before .before .before .before .before .before .before .before .before .before .before .before .before .before .before .before .before .before .before .settings-from .ensures)) (c .before .before .before .before .before .before .before .before .before .before .before .before .before .before .before .before .before .before .before .before .before .before .before .before .before .before .poisson-reconstruction .ensures) in
+    let made = c .before .before .before .before .before .before .before .before .before .before .before .before .before .before .before .before .before .before .before .before .before .before .before .before .before .before in
+    let given = made .before .before .before .before .before .before .before .before .before .before .before .before in
+    let x = given .before .before .before .before .before .before .before .before .before .before .before .before .before .args in
+    let lengths = lengthsOf (now (x .vertices)) (now (x .faces)) (now (x .s0)) (now (x .s1)) (now (x .s2)) (now (x .s3)) (now (x .s4)) (now (x .s5)) (now (x .s6)) (now (x .edges)) (now (x .distances)) in
+    let done = carry (ap (λ (st : Settings). reconstructed (now (x .points)) st lengths) (given .settings-from .ensures)) (made .poisson-reconstruction .ensures) in
     record {
       number-is = ap (λ (a : Answer). a .number) (done .answered);
       counts-are = c .before .before .put-counts .ensures ∙ ap countsOf (done .answered);

@@ -1,4 +1,4 @@
--- Each slice is what its clearing leaves.
+-- Each slice is what its clearing leaves; the clearings are looked back to, the last one first.
 use borrow.Author.Needs.{needs}
 use Rattle.ending.proofs.clear_scratch.Statement.{statement}
 use Rattle.ending.proofs.clear_scratch.Tie as tie
@@ -59,16 +59,25 @@ same-length-9 c = search needs
 
 returns : tie.Need-returns
 returns c =
+    let distances = c .before .before in
+    let edges = distances .before .before .before .before in
+    let s6 = edges .before .before .before .before in
+    let s5 = s6 .before .before .before .before in
+    let s4 = s5 .before .before .before .before in
+    let s3 = s4 .before .before .before .before in
+    let s2 = s3 .before .before .before .before in
+    let s1 = s2 .before .before .before .before in
+    let s0 = s1 .before .before .before .before in
     record {
-      s0-clear = c .before .before .before .before .before .before .before .before .before .before .before .before .before .before .before .before .before .before .before .before .before .before .before .before .before .before .before .before .before .before .before .before .before .before .clear-f32 .ensures;
-      s1-clear = c .before .before .before .before .before .before .before .before .before .before .before .before .before .before .before .before .before .before .before .before .before .before .before .before .before .before .before .before .before .before .clear-f322 .ensures;
-      s2-clear = c .before .before .before .before .before .before .before .before .before .before .before .before .before .before .before .before .before .before .before .before .before .before .before .before .before .before .clear-f323 .ensures;
-      s3-clear = c .before .before .before .before .before .before .before .before .before .before .before .before .before .before .before .before .before .before .before .before .before .before .clear-f324 .ensures;
-      s4-clear = c .before .before .before .before .before .before .before .before .before .before .before .before .before .before .before .before .before .before .clear-f325 .ensures;
-      s5-clear = c .before .before .before .before .before .before .before .before .before .before .before .before .before .before .clear-f326 .ensures;
-      s6-clear = c .before .before .before .before .before .before .before .before .before .before .clear-f327 .ensures;
-      edges-clear = c .before .before .before .before .before .before .clear-u32 .ensures;
-      distances-clear = c .before .before .clear-f328 .ensures;
+      s0-clear = s0 .clear-f32 .ensures;
+      s1-clear = s1 .clear-f322 .ensures;
+      s2-clear = s2 .clear-f323 .ensures;
+      s3-clear = s3 .clear-f324 .ensures;
+      s4-clear = s4 .clear-f325 .ensures;
+      s5-clear = s5 .clear-f326 .ensures;
+      s6-clear = s6 .clear-f327 .ensures;
+      edges-clear = edges .clear-u32 .ensures;
+      distances-clear = distances .clear-f328 .ensures;
     }
 
 pub clear-scratch-spec : {M : Type 1} → statement M

@@ -46,7 +46,11 @@ same-length-11 : tie.Need-same-length-11
 same-length-11 c = search needs
 
 returns : tie.Need-returns
-returns c = record { vertices = c .before .before .before .before .before .before .before .before .before .before .before .before .before .before .before .before .before .before .before .before .before .before .before .before .before .before .before .before .before .before .before .before .before .before .clear-from-f32 .ensures; faces = c .before .before .before .before .before .before .before .before .before .before .before .before .before .before .before .before .before .before .before .before .before .before .before .before .before .before .before .before .before .before .clear-from-u32 .ensures; scratch = c .before .before .before .before .before .before .before .before .before .before .before .before .before .before .before .before .before .before .clear-scratch .ensures }
+returns c =
+    let scratch = c .before .before .before .before .before .before .before .before .before .before .before .before .before .before .before .before .before .before in
+    let faces = scratch .before .before .before .before .before .before .before .before .before .before .before .before in
+    let vertices = faces .before .before .before .before in
+    record { vertices = vertices .clear-from-f32 .ensures; faces = faces .clear-from-u32 .ensures; scratch = scratch .clear-scratch .ensures }
 
 pub tidy-spec : {M : Type 1} → statement M
 tidy-spec =

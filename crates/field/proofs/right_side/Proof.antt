@@ -1,5 +1,4 @@
--- `field::right_side` meets its contract: the kernel is sigma's, and all scratch is cleared.
--- Assumes nothing.
+-- `field::right_side` meets its contract: the kernel is sigma's (`by-kernel`), and all scratch is cleared. Assumes nothing.
 use mathlib.Core.Path.{sym, ap, _∙_, subst}
 use Prim.Native.Nat.{_≤_}
 use lib.Ieee.{Float}
@@ -68,13 +67,19 @@ same-length-5 c = search needs
 
 returns : tie.Need-returns
 returns c =
-    let s = c .before .before .before .before .before .before .before .before .before .before .before .before .before .before .before .before .before .before .before .before .before .before .before .before .before .before .before .before .before .before .before .before .before .before .before .before .before .before .before .before .before .before .before in
-    let made = c .before .before .before .before .before .before .before .before .before .before .before .before .before .before .before .before .before .before .before .before .before .before .before .before .before .before .right-side-by in (
-      by-kernel (s .args .g) (usables (now (s .args .points))) (s .args .spacing) (s .args .smoothing) (c .before .before .before .before .before .before .before .before .before .before .before .before .before .before .before .before .before .before .before .before .before .before .before .before .before .before .before .before .before .before .before .before .before .before .before .before .sigma .ensures) (c .before .before .before .before .before .before .before .before .before .before .before .before .before .before .before .before .before .before .before .before .before .before .before .before .before .before .before .before .before .before .before .before .before .before .before .new .ensures) (made .ensures),
-      c .before .before .before .before .before .before .before .before .before .before .before .before .before .before .clear-f32 .ensures ∙ ap zeros32 (made .kept .1 .1 .1 .1 .1 .0 ∙ s .pre .2),
-      c .before .before .before .before .before .before .before .before .before .before .clear-f322 .ensures ∙ ap zeros32 (made .kept .1 .1 .1 .1 .1 .1 .0 ∙ s .pre .3),
-      c .before .before .before .before .before .before .clear-f323 .ensures ∙ ap zeros32 (made .kept .1 .1 .1 .1 .1 .1 .1 .0 ∙ s .pre .4),
-      c .before .before .clear-f324 .ensures ∙ ap zeros32 (made .kept .1 .1 .1 .1 .1 .1 .1 .1 .0 ∙ s .pre .5),
+    let fourth = c .before .before in
+    let third = fourth .before .before .before .before in
+    let second = third .before .before .before .before in
+    let first = second .before .before .before .before in
+    let made = first .before .before .before .before .before .before .before .before .before .before .before .before in
+    let kernel = made .before .before .before .before .before .before .before .before .before in
+    let s = kernel .before .before .before .before .before .before .before .before in
+    let k = made .right-side-by .kept .1 .1 .1 .1 .1 in (
+      by-kernel (s .args .g) (usables (now (s .args .points))) (s .args .spacing) (s .args .smoothing) (kernel .before .sigma .ensures) (kernel .new .ensures) (made .right-side-by .ensures),
+      first .clear-f32 .ensures ∙ ap zeros32 (k .0 ∙ s .pre .2),
+      second .clear-f322 .ensures ∙ ap zeros32 (k .1 .0 ∙ s .pre .3),
+      third .clear-f323 .ensures ∙ ap zeros32 (k .1 .1 .0 ∙ s .pre .4),
+      fourth .clear-f324 .ensures ∙ ap zeros32 (k .1 .1 .1 .0 ∙ s .pre .5),
     )
 
 pub right-side-spec : {M : Type 1} → statement M

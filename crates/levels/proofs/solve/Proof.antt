@@ -34,18 +34,20 @@ same-length-7 c = search needs
 
 returns : tie.Need-returns
 returns c =
-    let z = c .before .before .before .before .before .before .before .before .before .before .before .before .clear-scratch .ensures in
-    let o = c .before .before .before .before .before .before .before .before .before .before .before .before .before .before .before .before .before .before .before .before .before .before .before .before .before .before .before .before .before .before .before .before .before .all-levels in
-    let s = c .before .before .before .before .before .before .before .before .before .before .before .before .before .before .before .before .before .before .before .before .before .before .before .before .before .before .before .before .before .before .before .before .before .before .before .before .before .before .before .before .before .before .before .before .before .before .before .before .before in
+    let e = c .before .before .before .before .before .before .before .before .before .before .before .before in
+    let z = e .clear-scratch .ensures in
+    let d = e .before .before .before .before .before .before .before .before .before .before .before .before .before .before .before .before .before .before .before .before .before in
+    let k = d .all-levels .kept .1 .1 .1 .1 in
+    let s = d .before .before .before .before .before .before .before .before .before .before .before .before .before .before .before .before in
     let size = s .pre .1 .0 in
     record {
-      of-x = o .ensures;
-      of-before = z .of-before ∙ ap zeros32 (o .kept .1 .1 .1 .1 .0 ∙ s .pre .1 .1);
-      of-b = z .of-b ∙ ap zeros32 (o .kept .1 .1 .1 .1 .1 .0 ∙ size .of-b);
-      of-s = z .of-s ∙ ap zeros32 (o .kept .1 .1 .1 .1 .1 .1 .0 ∙ size .of-s);
-      of-r = z .of-r ∙ ap zeros32 (o .kept .1 .1 .1 .1 .1 .1 .1 .0 ∙ size .of-r);
-      of-p = z .of-p ∙ ap zeros32 (o .kept .1 .1 .1 .1 .1 .1 .1 .1 .0 ∙ size .of-p);
-      of-ap = z .of-ap ∙ ap zeros32 (o .kept .1 .1 .1 .1 .1 .1 .1 .1 .1 .0 ∙ size .of-ap);
+      of-x = d .all-levels .ensures;
+      of-before = z .of-before ∙ ap zeros32 (k .0 ∙ s .pre .1 .1);
+      of-b = z .of-b ∙ ap zeros32 (k .1 .0 ∙ size .of-b);
+      of-s = z .of-s ∙ ap zeros32 (k .1 .1 .0 ∙ size .of-s);
+      of-r = z .of-r ∙ ap zeros32 (k .1 .1 .1 .0 ∙ size .of-r);
+      of-p = z .of-p ∙ ap zeros32 (k .1 .1 .1 .1 .0 ∙ size .of-p);
+      of-ap = z .of-ap ∙ ap zeros32 (k .1 .1 .1 .1 .1 .0 ∙ size .of-ap);
     }
 
 pub solve-spec : {M : Type 1} → statement M

@@ -10,29 +10,51 @@ use borrow.Author.Needs.{needs}
 use Rattle.levels.proofs.rising.all_levels.Statement.{statement}
 use Rattle.levels.proofs.rising.all_levels.Tie as tie
 
+-- ---- the places: the entry, the choice of the first depth, and its level, each seen from one further on
+
+abbrev entry : tie.After-first-depth → tie.Start
+entry c = c .before .before .before .before .before .before .before .before .before
+
+abbrev chosen : tie.After-first-level → tie.After-first-depth
+chosen c = c .before .before .before .before .before .before .before
+
+abbrev begun : tie.After-rise → tie.After-first-level
+begun c = c .before .before .before .before .before .before .before .before .before .before .before .before .before .before .before .before .before .before .before .before
+
+-- ---- the needs
+
 first-depth-requires : tie.Need-first-depth-requires
 first-depth-requires c κs = search needs
 
 first-level-requires : tie.Need-first-level-requires
 first-level-requires c κs =
-    let first = c .before .before .before .before .before .before .first-depth in
-    let s = c .before .before .before .before .before .before .before .before .before .before .before .before .before .before .before in
+    let d = c .before .before .before .before .before .before in
+    let first = d .first-depth in
+    let s = entry d in
     let size = s .pre .1 .0 in
-    let most : first .result ≤ s .args .depth = omega (arith, first .ensures) in
-    let fits = nodes-mono most in (
-      (omega (arith, first .ensures, s .pre .0), omega (arith, s .pre .0)),
-      (sized-by size (sym (size .of-x)), omega (arith, size .of-x)),
+    let most : first .result ≤ s .args .depth = omega (arith, first .ensures) in (
+      (omega (arith, first .ensures, s .pre .0), omega (arith, most, s .pre .0)),
+      (sized-by size (sym (size .of-x)), omega (arith, size .of-x, nodes-mono most)),
     )
 
 rise-requires : tie.Need-rise-requires
 rise-requires c κs =
     let o = c .before .before .before .before .before .before .before .before .before .before .before .before .before .before .before .before .before .before .before .first-level in
-    let first = c .before .before .before .before .before .before .before .before .before .before .before .before .before .before .before .before .before .before .before .before .before .before .before .before .before .before .first-depth in
-    let s = c .before .before .before .before .before .before .before .before .before .before .before .before .before .before .before .before .before .before .before .before .before .before .before .before .before .before .before .before .before .before .before .before .before .before .before in
+    let k = o .kept .1 .1 .1 in
+    let d = chosen (c .before .before .before .before .before .before .before .before .before .before .before .before .before .before .before .before .before .before .before) in
+    let first = d .first-depth in
+    let s = entry d in
     let size = s .pre .1 .0 in (
       (omega (arith, first .ensures, s .pre .0), omega (arith, first .ensures), s .pre .0 .1),
       (
-        record { of-x = o .kept .1 .1 .1 .0 ∙ size .of-x; of-b = o .kept .1 .1 .1 .1 .0 ∙ size .of-b; of-s = o .kept .1 .1 .1 .1 .1 .0 ∙ size .of-s; of-r = o .kept .1 .1 .1 .1 .1 .1 .0 ∙ size .of-r; of-p = o .kept .1 .1 .1 .1 .1 .1 .1 .0 ∙ size .of-p; of-ap = o .kept .1 .1 .1 .1 .1 .1 .1 .1 .0 ∙ size .of-ap },
+        record {
+          of-x = k .0 ∙ size .of-x;
+          of-b = k .1 .0 ∙ size .of-b;
+          of-s = k .1 .1 .0 ∙ size .of-s;
+          of-r = k .1 .1 .1 .0 ∙ size .of-r;
+          of-p = k .1 .1 .1 .1 .0 ∙ size .of-p;
+          of-ap = k .1 .1 .1 .1 .1 .0 ∙ size .of-ap;
+        },
         (s .pre .1 .1, o .ensures),
       ),
     )
@@ -60,8 +82,10 @@ same-length-7 c = search needs
 
 returns : tie.Need-returns
 returns c =
-    let s = c .before .before .before .before .before .before .before .before .before .before .before .before .before .before .before .before .before .before .before .before .before .before .before .before .before .before .before .before .before .before .before .before .before .before .before .before .before .before .before .before .before .before .before .before .before .before .before .before .before .before in
-    solution-is (s .args .problem) (usables (now (s .args .points))) (s .args .depth) (c .before .before .before .before .before .before .before .before .before .before .before .before .before .before .before .before .before .before .before .before .before .before .before .before .before .before .before .before .before .before .before .before .before .before .before .before .before .before .before .before .before .first-depth .ensures) (c .before .before .before .before .before .before .before .before .before .before .before .before .before .before .rise .ensures)
+    let d = c .before .before .before .before .before .before .before .before .before .before .before .before .before .before in
+    let first = chosen (begun d) in
+    let x = entry first .args in
+    solution-is (x .problem) (usables (now (x .points))) (x .depth) (first .first-depth .ensures) (d .rise .ensures)
 
 pub all-levels-spec : {M : Type 1} → statement M
 all-levels-spec =

@@ -8,6 +8,16 @@ use borrow.Author.Needs.{needs}
 use Rattle.levels.proofs.rising.first_level.Statement.{statement}
 use Rattle.levels.proofs.rising.first_level.Tie as tie
 
+-- ---- the places: the entry, seen from behind the clearing; and the clearing, seen from behind the grid
+
+abbrev entry : tie.After-clear-f32 → tie.Start
+entry c = c .before .before .before .before .before .before .before .before .before
+
+abbrev cleared : tie.After-grid → tie.After-clear-f32
+cleared c = c .before .before .before
+
+-- ---- the needs
+
 clear-f32-requires : tie.Need-clear-f32-requires
 clear-f32-requires c κs = search needs
 
@@ -16,14 +26,14 @@ grid-requires c κs = search needs
 
 level-front-requires : tie.Need-level-front-requires
 level-front-requires c κs =
-    let grid = c .before .before .before .before .before .before .grid in
-    let s = c .before .before .before .before .before .before .before .before .before .before .before .before .before .before .before .before .before .before in
+    let d = c .before .before .before .before .before .before in
+    let s = entry (cleared d) in
     let size = s .pre .1 .0 in
-    let kept = c .before .before .before .before .before .before .before .before .before .clear-f32 .kept .0 in (
-      grid .ensures .1,
+    let kept = cleared d .clear-f32 .kept .0 in (
+      d .grid .ensures .1,
       (
         record { of-x = refl; of-b = size .of-b ∙ sym kept; of-s = size .of-s ∙ sym kept; of-r = size .of-r ∙ sym kept; of-p = size .of-p ∙ sym kept; of-ap = size .of-ap ∙ sym kept },
-        omega (arith, kept, nodes-is (s .args .problem) (s .args .depth) (grid .ensures .0), s .pre .1 .1),
+        omega (arith, kept, nodes-is (s .args .problem) (s .args .depth) (d .grid .ensures .0), s .pre .1 .1),
       ),
     )
 
@@ -47,8 +57,10 @@ same-length-6 c = search needs
 
 returns : tie.Need-returns
 returns c =
-    let s = c .before .before .before .before .before .before .before .before .before .before .before .before .before .before .before .before .before .before .before .before .before .before .before .before .before .before .before .before .before .before .before in
-    first-is (s .args .problem) (usables (now (s .args .points))) (s .args .depth) (c .before .before .before .before .before .before .before .before .before .before .before .before .level-front .last .1 .1 .1 .0) (c .before .before .before .before .before .before .before .before .before .before .before .before .before .before .before .before .before .before .before .grid .ensures .0) (s .pre .1 .1) (c .before .before .before .before .before .before .before .before .before .before .before .before .before .before .before .before .before .before .before .before .before .before .clear-f32 .ensures) (c .before .before .before .before .before .before .before .before .before .before .before .before .level-front .ensures)
+    let done = c .before .before .before .before .before .before .before .before .before .before .before .before .level-front in
+    let d = c .before .before .before .before .before .before .before .before .before .before .before .before .before .before .before .before .before .before .before in
+    let s = entry (cleared d) in
+    first-is (s .args .problem) (usables (now (s .args .points))) (s .args .depth) (done .last .1 .1 .1 .0) (d .grid .ensures .0) (s .pre .1 .1) (cleared d .clear-f32 .ensures) (done .ensures)
 
 pub first-level-spec : {M : Type 1} → statement M
 first-level-spec =

@@ -1,16 +1,32 @@
--- `levels::level_front` meets its contract: each front has as many elements as the level has nodes. Assumes nothing.
-use mathlib.Core.Path.{sym, ap, _∙_}
+-- `levels::level_front` meets its contract: each front has as many elements as the level has nodes (`front`). Assumes nothing.
+use mathlib.Core.List.{List}
+use mathlib.Core.Path.{_≡_, refl, sym, ap, _∙_}
 use Prim.Native.Nat.{ℕ}
 use native.Mathlib.Omega.{arith}
-use lib.ListN.{take}
-use lib.Seq.{length-take-le}
+use lib.ListN.{length, take}
+use lib.Ieee.{Float}
 use denote.Ref.{now}
+use Rattle.grid.specs.Grid.{allNodes}
 use Rattle.points.specs.Points.{usables}
 use Rattle.levels.specs.Levels.{levelFrom}
 use Rattle.levels.proofs.Fronts.{front-size, front-is}
 use borrow.Author.Needs.{needs}
 use Rattle.levels.proofs.rising.level_front.Statement.{statement}
 use Rattle.levels.proofs.rising.level_front.Tie as tie
+
+-- ---- the entry, seen from behind the count of nodes; and what is known there
+
+abbrev entry : tie.After-len → tie.Start
+entry c = c .before .before .before .before .before .before .before .before
+
+-- the front of a slice that is as long as x, in the code's count and in the level's
+front : (c : tie.After-len) (l : List Float) → length l ≡ length (now (entry c .args .x)) → length (take (c .len .result) l) ≡ allNodes (entry c .args .g)
+front c l e = front-size l (c .len .ensures) (omega (arith, e, entry c .pre .1 .1))
+
+counted : (c : tie.After-len) (l : List Float) → length l ≡ length (now (entry c .args .x)) → c .len .result ≡ length (take (c .len .result) l)
+counted c l e = c .len .ensures ∙ sym (front c l e)
+
+-- ---- the needs
 
 len-requires : tie.Need-len-requires
 len-requires c κs = search needs
@@ -19,50 +35,51 @@ slice-relend-prefix-level : tie.Need-slice-relend-prefix-level
 slice-relend-prefix-level c = search needs
 
 slice-aggregate-level : tie.Need-slice-aggregate-level
-slice-aggregate-level c = let s = c .before .before .before .before .before .before .before .before .before in sym (length-take-le _ (now (s .args .x)) (omega (arith, c .before .len .ensures, s .pre)))
+slice-aggregate-level c = let d = c .before in counted d (now (entry d .args .x)) refl
 
 slice-relend-prefix-level-2 : tie.Need-slice-relend-prefix-level-2
 slice-relend-prefix-level-2 c = search needs
 
 slice-aggregate-level-2 : tie.Need-slice-aggregate-level-2
-slice-aggregate-level-2 c = let s = c .before .before .before .before .before .before .before .before .before .before in sym (length-take-le _ (now (s .args .b)) (omega (arith, c .before .before .len .ensures, s .pre)))
+slice-aggregate-level-2 c = let d = c .before .before in counted d (now (entry d .args .b)) (entry d .pre .1 .0 .of-b)
 
 slice-relend-prefix-level-3 : tie.Need-slice-relend-prefix-level-3
 slice-relend-prefix-level-3 c = search needs
 
 slice-aggregate-level-3 : tie.Need-slice-aggregate-level-3
-slice-aggregate-level-3 c = let s = c .before .before .before .before .before .before .before .before .before .before .before in sym (length-take-le _ (now (s .args .s)) (omega (arith, c .before .before .before .len .ensures, s .pre)))
+slice-aggregate-level-3 c = let d = c .before .before .before in counted d (now (entry d .args .s)) (entry d .pre .1 .0 .of-s)
 
 slice-relend-prefix-level-4 : tie.Need-slice-relend-prefix-level-4
 slice-relend-prefix-level-4 c = search needs
 
 slice-aggregate-level-4 : tie.Need-slice-aggregate-level-4
-slice-aggregate-level-4 c = let s = c .before .before .before .before .before .before .before .before .before .before .before .before in sym (length-take-le _ (now (s .args .r)) (omega (arith, c .before .before .before .before .len .ensures, s .pre)))
+slice-aggregate-level-4 c = let d = c .before .before .before .before in counted d (now (entry d .args .r)) (entry d .pre .1 .0 .of-r)
 
 slice-relend-prefix-level-5 : tie.Need-slice-relend-prefix-level-5
 slice-relend-prefix-level-5 c = search needs
 
 slice-aggregate-level-5 : tie.Need-slice-aggregate-level-5
-slice-aggregate-level-5 c = let s = c .before .before .before .before .before .before .before .before .before .before .before .before .before in sym (length-take-le _ (now (s .args .p)) (omega (arith, c .before .before .before .before .before .len .ensures, s .pre)))
+slice-aggregate-level-5 c = let d = c .before .before .before .before .before in counted d (now (entry d .args .p)) (entry d .pre .1 .0 .of-p)
 
 slice-relend-prefix-level-6 : tie.Need-slice-relend-prefix-level-6
 slice-relend-prefix-level-6 c = search needs
 
 slice-aggregate-level-6 : tie.Need-slice-aggregate-level-6
-slice-aggregate-level-6 c = let s = c .before .before .before .before .before .before .before .before .before .before .before .before .before .before in sym (length-take-le _ (now (s .args .ap)) (omega (arith, c .before .before .before .before .before .before .len .ensures, s .pre)))
+slice-aggregate-level-6 c = let d = c .before .before .before .before .before .before in counted d (now (entry d .args .ap)) (entry d .pre .1 .0 .of-ap)
 
 level-requires : tie.Need-level-requires
 level-requires c κs =
-    let s = c .before .before .before .before .before .before .before .before .before .before .before .before .before .before in
-    let count = c .before .before .before .before .before .before .len .ensures in (
-      s .pre .0,
+    let d = c .before .before .before .before .before .before in
+    let x = entry d .args in
+    let size = entry d .pre .1 .0 in (
+      entry d .pre .0,
       record {
-        of-x = front-size (now (s .args .x)) count (omega (arith, s .pre));
-        of-b = front-size (now (s .args .b)) count (omega (arith, s .pre));
-        of-s = front-size (now (s .args .s)) count (omega (arith, s .pre));
-        of-r = front-size (now (s .args .r)) count (omega (arith, s .pre));
-        of-p = front-size (now (s .args .p)) count (omega (arith, s .pre));
-        of-ap = front-size (now (s .args .ap)) count (omega (arith, s .pre));
+        of-x = front d (now (x .x)) refl;
+        of-b = front d (now (x .b)) (size .of-b);
+        of-s = front d (now (x .s)) (size .of-s);
+        of-r = front d (now (x .r)) (size .of-r);
+        of-p = front d (now (x .p)) (size .of-p);
+        of-ap = front d (now (x .ap)) (size .of-ap);
       },
     )
 
@@ -87,10 +104,11 @@ same-length-6 c = search needs
 returns : tie.Need-returns
 returns c =
     let level = c .before .before .before .before .before .before .before .before .before .before .before .before .level in
-    let s = c .before .before .before .before .before .before .before .before .before .before .before .before .before .before .before .before .before .before .before .before .before .before .before .before .before .before .before in
+    let d = c .before .before .before .before .before .before .before .before .before .before .before .before .before .before .before .before .before .before .before in
+    let s = entry d in
     let x = now (s .args .x) in
-    let count = c .before .before .before .before .before .before .before .before .before .before .before .before .before .before .before .before .before .before .before .len .ensures in
-    front-is x count (s .pre .1 .1) (level .kept .1 .1 .1 .0) ∙ level .ensures ∙ ap (λ (m : ℕ). levelFrom (s .args .problem) (usables (now (s .args .points))) (s .args .g) (take m x)) count
+    front-is x (d .len .ensures) (s .pre .1 .1) (level .kept .1 .1 .1 .0)
+    ∙ level .ensures ∙ ap (λ (m : ℕ). levelFrom (s .args .problem) (usables (now (s .args .points))) (s .args .g) (take m x)) (d .len .ensures)
 
 pub level-front-spec : {M : Type 1} → statement M
 level-front-spec =

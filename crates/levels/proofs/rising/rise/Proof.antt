@@ -1,4 +1,4 @@
--- `levels::rise` meets its contract: the front of x holds the level d, as `risen` has it. Assumes nothing.
+-- `levels::rise` meets its contract: the front of x holds the level d, as `risen` has it; a turn makes the next level of it (`rise-more`). Assumes nothing.
 use mathlib.Core.Path.{_≡_, sym, _∙_}
 use Prim.Native.Nat.{_+_, _-_, _≤_}
 use native.Mathlib.Omega.{arith}
@@ -18,6 +18,22 @@ Inv-loop problem points first depth x₀ before₀ b₀ s₀ r₀ p₀ ap₀ d�
 abbrev μ-loop : tie.MeasureT-loop
 μ-loop problem points first depth x₀ before₀ b₀ s₀ r₀ p₀ ap₀ d₀ x before b s r p ap d = depth - d
 
+-- ---- the places: the entry, seen from inside the loop and from behind it; the inside, seen from behind the next level
+
+abbrev entry : tie.In-loop Inv-loop μ-loop → tie.Start Inv-loop μ-loop
+entry c = c .before .before .before .before .before .before .before .before .before .before
+
+abbrev start : tie.After-loop Inv-loop μ-loop → tie.Start Inv-loop μ-loop
+start c = c .before .before .before .before .before .before .before .before .before .before
+
+abbrev inside : tie.After-next-level Inv-loop μ-loop → tie.In-loop Inv-loop μ-loop
+inside c = c .before .before .before .before .before .before .before .before
+
+abbrev raised : tie.After-slice-known14 Inv-loop μ-loop → tie.After-next-level Inv-loop μ-loop
+raised c = c .before .before .before .before .before .before .before .before .before .before .before .before .before .before
+
+-- ---- the needs
+
 loop-holds : tie.Need-loop-holds Inv-loop μ-loop
 loop-holds c =
     let s = c .before .before .before .before .before .before .before .before in
@@ -26,62 +42,69 @@ loop-holds c =
 
 next-level-requires : tie.Need-next-level-requires Inv-loop μ-loop
 next-level-requires c κs =
-    let q = c .before .before .before .before .before .before .before .before in
-    let s = c .before .before .before .before .before .before .before .before .before .before .before .before .before .before .before .before .before in
-    let size = q .loop .inv .3 in
-    let test = c .before .before .before .before .before .before .before .loop-test .taken in
-    let small = nodes-mono (q .loop .inv .2) in
-    let most : q .loop .d + 1 ≤ s .args .depth = omega arith in
-    let large = nodes-mono most in (
-      (omega (arith, s .pre .0, q .loop .inv .1), omega (arith, s .pre .0)),
-      (sized-by size (sym (size .of-x)), (q .loop .inv .4 ∙ sym (size .of-x), omega (arith, size .of-x), omega (arith, size .of-x))),
+    let d = c .before .before .before .before .before .before .before in
+    let q = d .before .loop in
+    let s = entry d in
+    let size = q .inv .3 in
+    let more : q .d + 1 ≤ s .args .depth = omega (arith, d .loop-test .taken) in (
+      (omega (arith, s .pre .0, q .inv .1), omega (arith, more, s .pre .0)),
+      (sized-by size (sym (size .of-x)), (q .inv .4 ∙ sym (size .of-x), omega (arith, size .of-x, nodes-mono (q .inv .2)), omega (arith, size .of-x, nodes-mono more))),
     )
 
 add-d : tie.Need-add-d Inv-loop μ-loop
-add-d c = omega (arith, c .before .before .before .before .before .before .before .before .before .before .before .before .before .before .before .before .before .before .before .before .before .before .loop-test .taken, c .before .before .before .before .before .before .before .before .before .before .before .before .before .before .before .before .before .before .before .before .before .before .before .before .before .before .before .before .before .before .before .before .pre .0)
+add-d c = let d = inside (raised c) in omega (arith, d .loop-test .taken, entry d .pre .0)
 
 loop-less : tie.Need-loop-less Inv-loop μ-loop
-loop-less c = omega (arith, c .before .before .before .before .before .before .before .before .before .before .before .before .before .before .before .before .before .before .before .before .before .before .loop-test .taken)
+loop-less c = omega (arith, inside (raised c) .loop-test .taken)
 
 loop-again : tie.Need-loop-again Inv-loop μ-loop
 loop-again c =
-    let o = c .before .before .before .before .before .before .before .before .before .before .before .before .before .before .next-level in
-    let q = c .before .before .before .before .before .before .before .before .before .before .before .before .before .before .before .before .before .before .before .before .before .before .before in
-    let s = c .before .before .before .before .before .before .before .before .before .before .before .before .before .before .before .before .before .before .before .before .before .before .before .before .before .before .before .before .before .before .before .before in
-    let size = q .loop .inv .3 in (
-      rise-more (s .args .problem) (usables (now (s .args .points))) (s .args .first) (q .loop .d) (q .loop .x) (o .last .1 .1 .1 .0) (q .loop .inv .1) (q .loop .inv .0) (o .ensures),
-      omega (arith, q .loop .inv .1),
-      omega (arith, c .before .before .before .before .before .before .before .before .before .before .before .before .before .before .before .before .before .before .before .before .before .before .loop-test .taken),
-      record { of-x = o .kept .1 .1 .1 .0 ∙ size .of-x; of-b = o .kept .1 .1 .1 .1 .1 .0 ∙ size .of-b; of-s = o .kept .1 .1 .1 .1 .1 .1 .0 ∙ size .of-s; of-r = o .kept .1 .1 .1 .1 .1 .1 .1 .0 ∙ size .of-r; of-p = o .kept .1 .1 .1 .1 .1 .1 .1 .1 .0 ∙ size .of-p; of-ap = o .kept .1 .1 .1 .1 .1 .1 .1 .1 .1 .0 ∙ size .of-ap },
-      o .kept .1 .1 .1 .1 .0 ∙ q .loop .inv .4,
+    let o = raised c .next-level in
+    let k = o .kept .1 .1 .1 in
+    let d = inside (raised c) in
+    let q = d .before .loop in
+    let x = entry d .args in
+    let size = q .inv .3 in (
+      rise-more (x .problem) (usables (now (x .points))) (x .first) (q .d) (q .x) (o .last .1 .1 .1 .0) (q .inv .1) (q .inv .0) (o .ensures),
+      omega (arith, q .inv .1),
+      omega (arith, d .loop-test .taken),
+      record {
+        of-x = k .0 ∙ size .of-x;
+        of-b = k .1 .1 .0 ∙ size .of-b;
+        of-s = k .1 .1 .1 .0 ∙ size .of-s;
+        of-r = k .1 .1 .1 .1 .0 ∙ size .of-r;
+        of-p = k .1 .1 .1 .1 .1 .0 ∙ size .of-p;
+        of-ap = k .1 .1 .1 .1 .1 .1 .0 ∙ size .of-ap;
+      },
+      k .1 .0 ∙ q .inv .4,
     )
 
 same-length : tie.Need-same-length Inv-loop μ-loop
-same-length c = c .before .loop .inv .3 .of-x ∙ sym (c .before .before .before .before .before .before .before .before .before .before .pre .1 .0 .of-x)
+same-length c = c .before .loop .inv .3 .of-x ∙ sym (start c .pre .1 .0 .of-x)
 
 same-length-2 : tie.Need-same-length-2 Inv-loop μ-loop
-same-length-2 c = c .before .loop .inv .4 ∙ sym (c .before .before .before .before .before .before .before .before .before .before .pre .1 .1 .0)
+same-length-2 c = c .before .loop .inv .4 ∙ sym (start c .pre .1 .1 .0)
 
 same-length-3 : tie.Need-same-length-3 Inv-loop μ-loop
-same-length-3 c = c .before .loop .inv .3 .of-b ∙ sym (c .before .before .before .before .before .before .before .before .before .before .pre .1 .0 .of-b)
+same-length-3 c = c .before .loop .inv .3 .of-b ∙ sym (start c .pre .1 .0 .of-b)
 
 same-length-4 : tie.Need-same-length-4 Inv-loop μ-loop
-same-length-4 c = c .before .loop .inv .3 .of-s ∙ sym (c .before .before .before .before .before .before .before .before .before .before .pre .1 .0 .of-s)
+same-length-4 c = c .before .loop .inv .3 .of-s ∙ sym (start c .pre .1 .0 .of-s)
 
 same-length-5 : tie.Need-same-length-5 Inv-loop μ-loop
-same-length-5 c = c .before .loop .inv .3 .of-r ∙ sym (c .before .before .before .before .before .before .before .before .before .before .pre .1 .0 .of-r)
+same-length-5 c = c .before .loop .inv .3 .of-r ∙ sym (start c .pre .1 .0 .of-r)
 
 same-length-6 : tie.Need-same-length-6 Inv-loop μ-loop
-same-length-6 c = c .before .loop .inv .3 .of-p ∙ sym (c .before .before .before .before .before .before .before .before .before .before .pre .1 .0 .of-p)
+same-length-6 c = c .before .loop .inv .3 .of-p ∙ sym (start c .pre .1 .0 .of-p)
 
 same-length-7 : tie.Need-same-length-7 Inv-loop μ-loop
-same-length-7 c = c .before .loop .inv .3 .of-ap ∙ sym (c .before .before .before .before .before .before .before .before .before .before .pre .1 .0 .of-ap)
+same-length-7 c = c .before .loop .inv .3 .of-ap ∙ sym (start c .pre .1 .0 .of-ap)
 
 returns : tie.Need-returns Inv-loop μ-loop
 returns c =
-    let q = c .before in
-    let s = c .before .before .before .before .before .before .before .before .before .before in
-    rise-done (s .args .problem) (usables (now (s .args .points))) (s .args .first) (q .loop .d) (s .args .depth) (q .loop .x) (q .loop .inv .0) (omega (arith, q .loop .inv .2)) (q .loop .inv .3 .of-x)
+    let q = c .before .loop in
+    let x = start c .args in
+    rise-done (x .problem) (usables (now (x .points))) (x .first) (q .d) (x .depth) (q .x) (q .inv .0) (omega (arith, q .inv .2)) (q .inv .3 .of-x)
 
 pub rise-spec : {M : Type 1} → statement M
 rise-spec =

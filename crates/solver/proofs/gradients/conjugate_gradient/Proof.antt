@@ -31,14 +31,18 @@ same-length-4 c = search needs
 
 returns : tie.Need-returns
 returns c =
-    let o = c .before .before .before .before .before .before .before .before .before .before .before .before .before .before .before .before .before .before .before .before .descend in
-    let s = c .before .before .before .before .before .before .before .before .before .before .before .before .before .before .before .before .before .before .before .before .before .before .before .before .before .before .before .before .before .before in
+    let third = c .before .before in
+    let second = third .before .before .before .before in
+    let first = second .before .before .before .before in
+    let d = first .before .before .before .before .before .before .before .before .before .before in
+    let k = d .descend .kept .1 .1 .1 in
+    let s = d .before .before .before .before .before .before .before .before .before .before in
     let size = s .pre .0 in
     record {
-      of-x = o .ensures;
-      of-r = c .before .before .before .before .before .before .before .before .before .before .clear-f32 .ensures ∙ ap zeros32 (o .kept .1 .1 .1 .0 ∙ size .of-r);
-      of-p = c .before .before .before .before .before .before .clear-f322 .ensures ∙ ap zeros32 (o .kept .1 .1 .1 .1 .0 ∙ size .of-p);
-      of-ap = c .before .before .clear-f323 .ensures ∙ ap zeros32 (o .kept .1 .1 .1 .1 .1 .0 ∙ size .of-ap);
+      of-x = d .descend .ensures;
+      of-r = first .clear-f32 .ensures ∙ ap zeros32 (k .0 ∙ size .of-r);
+      of-p = second .clear-f322 .ensures ∙ ap zeros32 (k .1 .0 ∙ size .of-p);
+      of-ap = third .clear-f323 .ensures ∙ ap zeros32 (k .1 .1 .0 ∙ size .of-ap);
     }
 
 pub conjugate-gradient-spec : {M : Type 1} → statement M

@@ -9,44 +9,65 @@ use borrow.Author.Needs.{needs}
 use Rattle.solver.proofs.gradients.one_turn.Statement.{statement}
 use Rattle.solver.proofs.gradients.one_turn.Tie as tie
 
+-- ---- the places, and what is known there
+
+-- the entry, the root, the product and the dot, and the update, each seen from one further on
+abbrev entry : tie.After-root64 → tie.Start
+entry c = c .before .before .before .before .before
+
+abbrev rooted : tie.After-apply → tie.After-root64
+rooted c = c .before .before .before .before
+
+abbrev applied : tie.After-dot → tie.After-apply
+applied c = c .before .before .before .before .before
+
+abbrev start : tie.After-dot → tie.Start
+start c = entry (rooted (applied c))
+
+abbrev narrowed : tie.After-update → tie.After-narrow
+narrowed c = c .before .before .before .before .before
+
+abbrev dotted : tie.After-update → tie.After-dot
+dotted c = narrowed c .before .before
+
+abbrev begin : tie.After-update → tie.Start
+begin c = start (dotted c)
+
+abbrev from : tie.Start → State
+from s = record { x = now (s .args .x); r = now (s .args .r); p = now (s .args .p); rr = s .args .rr }
+
+abbrev to : tie.After-update → State
+to c = let u = c .update in record { x = u .last .1 .0; r = u .last .1 .1 .0; p = u .last .1 .1 .1 .0; rr = u .result }
+
 -- after the update: neither test has stopped, and alpha and the new state are those of the definition
-abbrev start : tie.After-slice-known8 → tie.Start
-start c = c .before .before .before .before .before .before .before .before .before .before .before .before .before .before .before .before .before .before .before .before .before .before .before .before .before .before .before
-
-abbrev from : tie.After-slice-known8 → State
-from c = let s = start c in record { x = now (s .args .x); r = now (s .args .r); p = now (s .args .p); rr = s .args .rr }
-
-abbrev to : tie.After-slice-known8 → State
-to c =
-    let u = c .before .before .before .before .before .before .update in record { x = u .last .1 .0; r = u .last .1 .1 .0; p = u .last .1 .1 .1 .0; rr = u .result }
-
-stepped : (c : tie.After-slice-known8)
-    → (stops (start c .args .g) (start c .args .limit) (from c) ≡ false)
-    × (c .before .before .before .before .before .before .before .before .before .before .before .narrow .result ≡ alphaOf (start c .args .g) (from c))
-    × (to c ≡ next (start c .args .g) (from c))
+stepped : (c : tie.After-update)
+    → (stops (begin c .args .g) (begin c .args .limit) (from (begin c)) ≡ false)
+    × (narrowed c .narrow .result ≡ alphaOf (begin c .args .g) (from (begin c)))
+    × (to c ≡ next (begin c .args .g) (from (begin c)))
 stepped c =
-    let narrow = c .before .before .before .before .before .before .before .before .before .before .before in
-    let dot = narrow .before .before in
-    let apply = dot .before .before .before .before .before in
-    let root = apply .before .before .before .before in
-    let s = start c in
+    let narrow = narrowed c in
+    let dot = dotted c in
+    let apply = applied dot in
+    let s = begin c in
     let g = s .args .g in
     let x = now (s .args .x) in
     let r = now (s .args .r) in
     let p = now (s .args .p) in
     let rr = s .args .rr in
     let alpha = alpha-is g (s .args .limit) x r p rr (apply .apply .ensures) (dot .dot .ensures) (narrow .narrow .ensures) in (
-      pap-stops g (s .args .limit) x r p rr false (root .root64 .ensures) (apply .before .before .before .if1 .left) (apply .apply .ensures) (dot .dot .ensures) (narrow .before .if2 .left),
+      pap-stops g (s .args .limit) x r p rr false (rooted apply .root64 .ensures) (apply .before .before .before .if1 .left) (apply .apply .ensures) (dot .dot .ensures) (narrow .before .if2 .left),
       alpha,
-      step-is g (s .args .limit) x r p rr (apply .apply .ensures) alpha (c .before .before .before .before .before .before .update .ensures),
+      step-is g (s .args .limit) x r p rr (apply .apply .ensures) alpha (c .update .ensures),
     )
+
+-- ---- the needs
 
 root64-requires : tie.Need-root64-requires
 root64-requires c κs = search needs
 
 returns : tie.Need-returns
 returns c =
-    let s = c .before .before .before .before .before .before in
+    let s = entry (c .before) in
     λ k. ap (λ (t : State). t .x) (steps-stop (s .args .g) (s .args .limit) k _ (low-stops (s .args .g) (s .args .limit) (now (s .args .x)) (now (s .args .r)) (now (s .args .p)) (s .args .rr) (c .before .root64 .ensures) (c .if1 .taken)))
 
 apply-requires : tie.Need-apply-requires
@@ -63,10 +84,9 @@ same-length-2 c = search needs
 
 returns-2 : tie.Need-returns-2
 returns-2 c =
-    let apply = c .before .before .before .before .before .before in
-    let root = apply .before .before .before .before in
-    let s = root .before .before .before .before .before in
-    λ k. ap (λ (t : State). t .x) (steps-stop (s .args .g) (s .args .limit) k _ (pap-stops (s .args .g) (s .args .limit) (now (s .args .x)) (now (s .args .r)) (now (s .args .p)) (s .args .rr) true (root .root64 .ensures) (apply .before .before .before .if1 .left) (apply .apply .ensures) (c .before .dot .ensures) (c .if2 .taken)))
+    let apply = applied (c .before) in
+    let s = start (c .before) in
+    λ k. ap (λ (t : State). t .x) (steps-stop (s .args .g) (s .args .limit) k _ (pap-stops (s .args .g) (s .args .limit) (now (s .args .x)) (now (s .args .r)) (now (s .args .p)) (s .args .rr) true (rooted apply .root64 .ensures) (apply .before .before .before .if1 .left) (apply .apply .ensures) (c .before .dot .ensures) (c .if2 .taken)))
 
 narrow-requires : tie.Need-narrow-requires
 narrow-requires c κs = search needs
@@ -88,10 +108,10 @@ same-length-6 c = search needs
 
 returns-3 : tie.Need-returns-3
 returns-3 c =
-    let update = c .before in
-    let s = start update in
+    let update = c .before .before .before .before .before .before .before in
+    let s = begin update in
     let t = stepped update in
-    let alpha = differs (c .before .before .before .before .before .before .before .before .before .before .before .before .narrow .result) (c .if3 .taken) in
+    let alpha = differs (narrowed update .narrow .result) (c .if3 .taken) in
     nan-done (s .args .g) (s .args .limit) (now (s .args .x)) (now (s .args .r)) (now (s .args .p)) (s .args .rr) (some-node (s .args .g) (s .pre .sides)) (t .0) (sym alpha ∙ t .1) (t .2)
 
 same-length-7 : tie.Need-same-length-7
@@ -107,7 +127,7 @@ same-length-10 : tie.Need-same-length-10
 same-length-10 c = search needs
 
 returns-4 : tie.Need-returns-4
-returns-4 c = let t = stepped (c .before) in (t .0, t .2)
+returns-4 c = let t = stepped (c .before .before .before .before .before .before .before) in (t .0, t .2)
 
 pub one-turn-spec : {M : Type 1} → statement M
 one-turn-spec =
