@@ -77,27 +77,22 @@ module _ (table : List ℕ) (point : ℕ → List Float) where
   places-more s [] = omega arith
   places-more s (e ∷ es) = omega (arith, place-more s e, places-more (place1 table point s e) es)
 
-  pub place-three : (s0 s1 s2 s3 : Places) (x y z x′ y′ z′ : ℕ) → s1 ≡ place1 table point s0 x → s2 ≡ place1 table point s1 y → s3 ≡ place1 table point s2 z
-      → x ≡ x′ → y ≡ y′ → z ≡ z′ → s3 ≡ placeAll table point s0 (x′ ∷ y′ ∷ z′ ∷ [])
+  pub place-three : (s0 s1 s2 s3 : Places) (x y z : ℕ) → s1 ≡ place1 table point s0 x → s2 ≡ place1 table point s1 y → s3 ≡ place1 table point s2 z
+      → s3 ≡ placeAll table point s0 (x ∷ y ∷ z ∷ [])
   unfolding placeAll
-  place-three s0 s1 s2 s3 x y z x′ y′ z′ a b c p q r =
-      c ∙ ap (λ (s : Places). place1 table point s z) (b ∙ ap (λ (s : Places). place1 table point s y) a)
-      ∙ ap (λ (n : ℕ). place1 table point (place1 table point (place1 table point s0 x) y) n) r
-      ∙ ap (λ (n : ℕ). place1 table point (place1 table point (place1 table point s0 x) n) z′) q
-      ∙ ap (λ (n : ℕ). place1 table point (place1 table point (place1 table point s0 n) y′) z′) p
+  place-three s0 s1 s2 s3 x y z a b c = c ∙ ap (λ (s : Places). place1 table point s z) (b ∙ ap (λ (s : Places). place1 table point s y) a)
 
-  -- there is room for each of three where there is room for all
-  pub three-rooms : (s0 s1 s2 : Places) (x y z x′ y′ z′ : ℕ) → x ≡ x′ → y ≡ y′ → z ≡ z′ → s1 ≡ place1 table point s0 x → s2 ≡ place1 table point s1 y
-      → 3 * placeAll table point s0 (x′ ∷ y′ ∷ z′ ∷ []) .1 ≤ length (s0 .0)
-      → (3 * place1 table point s0 x .1 ≤ length (s0 .0)) × (3 * place1 table point s1 y .1 ≤ length (s1 .0)) × (3 * place1 table point s2 z .1 ≤ length (s2 .0))
-  three-rooms s0 s1 s2 x y z x′ y′ z′ p q r a b h =
-      let all : place1 table point s2 z ≡ placeAll table point s0 (x′ ∷ y′ ∷ z′ ∷ []) = place-three s0 s1 s2 (place1 table point s2 z) x y z x′ y′ z′ a b refl p q r in
-      let k1 : length (s1 .0) ≡ length (s0 .0) = ap (λ (s : Places). length (s .0)) a ∙ place-kept s0 x in
-      let k2 : length (s2 .0) ≡ length (s1 .0) = ap (λ (s : Places). length (s .0)) b ∙ place-kept s1 y in
-      let n2 : place1 table point s1 y .1 ≤ place1 table point s2 z .1 = omega (arith, ap (λ (s : Places). s .1) b, place-more s2 z) in
-      let n1 : place1 table point s0 x .1 ≤ place1 table point s1 y .1 = omega (arith, ap (λ (s : Places). s .1) a, place-more s1 y) in
-      let n3 = ap (λ (s : Places). s .1) all in
-      (omega (arith, n1, n2, n3, h), omega (arith, n2, n3, h, k1), omega (arith, n3, h, k1, k2))
+  -- there is room for the vertices of several edges: so there is for the first, and once that is placed for the rest
+  abbrev pub Fits : Places → List ℕ → Type 0
+  Fits s es = 3 * placeAll table point s es .1 ≤ length (s .0)
+
+  pub fits-first : (s : Places) (e : ℕ) (es : List ℕ) → Fits s (e ∷ es) → 3 * place1 table point s e .1 ≤ length (s .0)
+  unfolding placeAll
+  fits-first s e es h = omega (arith, h, places-more (place1 table point s e) es)
+
+  pub fits-rest : (s t : Places) (e : ℕ) (es : List ℕ) → Fits s (e ∷ es) → t ≡ place1 table point s e → Fits t es
+  unfolding placeAll
+  fits-rest s t e es h q = subst (λ (p : Places). Fits p es) (sym q) (omega (arith, h, place-kept s e))
 
   -- ---- the faces of a part of the cells, and of the next part
 
