@@ -4,10 +4,10 @@ use mathlib.Core.List.{List, [], _∷_}
 use Prim.Native.Nat.{ℕ, _+_, _-_, _*_, _<_, _≤_}
 use native.Mathlib.Omega.{arith}
 use lib.ListN.{getD, length}
-use Rattle.closed.specs.Faces.{Face, face, mapFace, corners, faceOf}
+use Rattle.closed.specs.Faces.{Face, face, mapFace, corners}
 use Rattle.closed.specs.Rows.{emitted}
 use Rattle.closed.specs.Bounds.{emitted-le}
-use Rattle.closed.specs.Turning.{corners-append}
+use Rattle.closed.specs.Turning.{corners-append, length-corners}
 use Rattle.cells.specs.CellWords.{EdgesIn}
 use Rattle.numbering.specs.FirstPass.{Marks, markAll}
 use Rattle.numbering.proofs.Marking.{marks-append, marks-kept, marks-more}
@@ -20,11 +20,11 @@ unfolding markAll
 start s = refl
 
 -- one face more: t is the state before it, u after it and s the first one
-step : (t u s : Marks) (offsets : List ℕ) (first case k : ℕ) (f : List ℕ) → k < length (emitted case) → faceOf f ≡ getD (emitted case) k (face 0 0 0)
+step : {t u : Marks} (s : Marks) (offsets : List ℕ) (first case k : ℕ) {f : Face} → k < length (emitted case) → f ≡ getD (emitted case) k (face 0 0 0)
     → t ≡ markAll s (corners (firstFaces offsets first case k))
-    → u ≡ markAll t (corners (mapFace (λ e. first + getD offsets e 0) (faceOf f) ∷ []))
+    → u ≡ markAll t (corners (mapFace (λ e. first + getD offsets e 0) f ∷ []))
     → (u ≡ markAll s (corners (firstFaces offsets first case (k + 1)))) × (length (u .0) ≡ length (t .0)) × (u .1 ≤ t .1 + 3)
-step t u s offsets first case k f h e p q =
+step {t} s offsets first case k {f} h e p q =
     let g : Face → Face = mapFace (λ e. first + getD offsets e 0) in
     let m : Face = getD (emitted case) k (face 0 0 0) in (
       q
@@ -32,8 +32,8 @@ step t u s offsets first case k f h e p q =
           ∙ ap (λ (x : Marks). markAll x (corners (g m ∷ []))) p
           ∙ sym (marks-append s (corners (firstFaces offsets first case k)) (corners (g m ∷ [])))
           ∙ ap (markAll s) (sym (corners-append (firstFaces offsets first case k) (g m ∷ [])) ∙ ap corners (sym (one-more offsets first case k h))),
-      ap (λ (x : Marks). length (x .0)) q ∙ marks-kept t (corners (g (faceOf f) ∷ [])),
-      omega (arith, ap (λ (x : Marks). x .1) q, marks-more t (corners (g (faceOf f) ∷ []))),
+      ap (λ (x : Marks). length (x .0)) q ∙ marks-kept t (corners (g f ∷ [])),
+      omega (arith, ap (λ (x : Marks). x .1) q, marks-more t (corners (g f ∷ [])), length-corners (g f ∷ [])),
     )
 
 abbrev Inv-loop : tie.InvT-loop
@@ -94,8 +94,7 @@ loop-again c =
     let r = read c in
     let l = turn r .before .loop in
     let a = entry (turn r .before) .args in
-    let m = c .before .before .mark-face in
-    let more = step (l .table, l .n) (m .last .0, m .result) (a .table .now, a .count) (a .offsets .now) (a .first .0) (a .case) (l .k) (r .row-face .result) (one-of (turn r)) (r .row-face .ensures) (l .inv .0) (m .ensures) in
+    let more = step (a .table .now, a .count) (a .offsets .now) _ _ _ (one-of (turn r)) (r .row-face .ensures) (l .inv .0) (c .before .before .mark-face .ensures) in
     (more .0, more .1 ∙ l .inv .1, omega (arith, more .2, l .inv .2), omega (arith, turn r .loop-test .taken))
 
 same-length : tie.Need-same-length Inv-loop μ-loop
