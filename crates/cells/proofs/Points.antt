@@ -15,7 +15,7 @@ use Rattle.closed.specs.Grid.{node}
 use Rattle.grid.specs.Grid.{coordsOf, nodeOf, axisOf, worldAlong}
 use Rattle.grid.specs.Numbering.{node-of-coords}
 use Rattle.grid.specs.declared.Lattice.{Lattice}
-use Rattle.cells.specs.Extraction.{countY, countZ, crossing, unit, lowerValue, upperValue, countAlong, coordinate, edgePoint}
+use Rattle.cells.specs.Extraction.{countY, countZ, crossing, unit, lowerValue, upperValue, countAlong, edgePoint}
 use Rattle.cells.specs.CellWords.{stride, Inner}
 use Rattle.cells.specs.Cells.{node-add, unit-stride}
 
@@ -39,7 +39,7 @@ module _ (values : List Float) (ny nz e : ℕ) where
       ∙ ap (λ (n : ℕ). nodeOf e + n) (unit-stride ny nz (axisOf e) (omega arith)))
 
 -- the numbers that code holds on the way
-pub point-is : (values : List Float) (l : Lattice) (iso : Float) (e axis q n s : ℕ) (place : List ℕ) (t x y z X Y Z : Float)
+pub point-is : (values : List Float) (l : Lattice) (iso : Float) (e : ℕ) {axis q n s : ℕ} {place : List ℕ} {t x y z X Y Z : Float}
     → axis ≡ axisOf e → q ≡ nodeOf e → place ≡ coordsOf (countY l) (countZ l) q → n ≡ q → s ≡ stride (countY l) (countZ l) axis
     → t ≡ crossing (at values n) (at values (n + s)) iso
     → x ≡ countAlong axis 0 (getD place 0 0) t → y ≡ countAlong axis 1 (getD place 1 0) t → z ≡ countAlong axis 2 (getD place 2 0) t
@@ -48,17 +48,17 @@ pub point-is : (values : List Float) (l : Lattice) (iso : Float) (e axis q n s :
     → Z ≡ narrowed (worldAlong (at (l .origin) 2) (at (l .step) 2) z)
     → X ∷ Y ∷ Z ∷ [] ≡ edgePoint values l iso e
 unfolding edgePoint
-point-is values l iso e axis q n s place t x y z X Y Z ha hq hp hn hs ht hx hy hz hX hY hZ =
+point-is values l iso e ha hq hp hn hs ht hx hy hz hX hY hZ =
     rw (hX, hY, hZ, hx, hy, hz, ht, hp, hs, hn, hq, ha, lower-is values (countY l) (countZ l) e, upper-is values (countY l) (countZ l) e) refl
 
-pub upper-inside : (values : List Float) (l : Lattice) (e axis q n s : ℕ) → Inner values l e → axis ≡ axisOf e → q ≡ nodeOf e → n ≡ q
+pub upper-inside : {values : List Float} {l : Lattice} {e axis q n s : ℕ} → Inner values l e → axis ≡ axisOf e → q ≡ nodeOf e → n ≡ q
     → s ≡ stride (countY l) (countZ l) axis → n + s < length values
-upper-inside values l e axis q n s h a b c d = omega (arith, h .upper, d ∙ ap (stride (countY l) (countZ l)) a)
+upper-inside {l = l} h a b c d = omega (arith, h .upper, d ∙ ap (stride (countY l) (countZ l)) a)
 
 -- a position's counts are at most the node's number
-pub coords-small : (values : List Float) (l : Lattice) (e q : ℕ) (place : List ℕ) → Inner values l e → q ≡ nodeOf e → place ≡ coordsOf (countY l) (countZ l) q
+pub coords-small : {values : List Float} {l : Lattice} {e q : ℕ} {place : List ℕ} → Inner values l e → q ≡ nodeOf e → place ≡ coordsOf (countY l) (countZ l) q
     → (getD place 0 0 ≤ 16777216) × (getD place 1 0 ≤ 16777216) × (getD place 2 0 ≤ 16777216)
-coords-small values l e q place h a b =
+coords-small {l = l} {q = q} h a b =
     let r : q / countZ l ≤ q = div-le-self q (countZ l) in
     let few : q ≤ 16777216 = omega (arith, h .upper, h .most) in
     rw b (

@@ -1,15 +1,15 @@
 -- The second pass whole: with the first pass's table, a vertex is written exactly at the first use of its edge, so the coordinates come in the order of the
 -- vertices; and the faces are those of the mesh. Assumes nothing.
-use mathlib.Core.Path.{_≡_, refl, sym, ap, _∙_, subst}
+use mathlib.Core.Path.{_≡_, refl, sym, ap, _∙_}
 use mathlib.Core.Logic.{⊎-elim}
-use mathlib.Core.Bool.{Bool, true, false, cond, _||_}
+use mathlib.Core.Bool.{Bool, false, cond, _||_}
 use mathlib.Core.List.{List, [], _∷_, _++_, map, append-nil, append-assoc}
 use Prim.Native.Nat.{ℕ, _+_, _-_, _*_, _≤_, _<_}
 use native.Mathlib.Omega.{arith}
 use borrow.Author.Tests.{eq-eqb, ne-eqb}
 use lib.Dec.{eqb}
 use lib.Ieee.{Float}
-use lib.ListN.{length, getD, take, drop, length-append, length-map, drop-of-length-le}
+use lib.ListN.{length, getD, length-append, drop-of-length-le}
 use lib.Seq.{sets, sets-eq}
 use Rattle.lists.specs.Lists.{tabulate}
 use Rattle.lists.specs.Tabulate.{at-tabulate}
@@ -17,7 +17,7 @@ use Rattle.closed.specs.Lists.{All, member, In}
 use Rattle.closed.specs.Faces.{Face, corners}
 use Rattle.closed.specs.Numbering.{note, grow, dedup, used, indexOf, slot, mesh}
 use Rattle.closed.specs.Mesh.{mesh-corners, mesh-length, used-member}
-use Rattle.closed.specs.Renumber.{in-or-not, in-note, note-old, note-new, indexOf-lt, indexOf-grow, indexOf-new, member-grow, slot-in, in-all, in-append-left}
+use Rattle.closed.specs.Renumber.{in-or-not, in-note, note-old, note-new, indexOf-lt, indexOf-grow, indexOf-new, member-grow, slot-in, in-all}
 use Rattle.grid.specs.Grid.{Counts}
 use Rattle.grid.specs.declared.Lattice.{Lattice}
 use Rattle.cells.specs.Extraction.{countX, countY, countZ, pointsOf, edgePoint, edgeFaces, vertexEdges, extractedFaces, extractedVertices}

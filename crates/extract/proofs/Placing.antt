@@ -4,20 +4,23 @@ use mathlib.Core.Path.{_≡_, refl, sym, ap, _∙_, subst}
 use mathlib.Core.Bool.{Bool, true, false, cond}
 use mathlib.Core.List.{List, [], _∷_, _++_, map, append-assoc, append-nil}
 use Prim.Native.Nat.{ℕ, zero, suc, _+_, _-_, _*_, _≤_, _<_}
-use native.Mathlib.Nat.{add-zero, add-suc, suc-add}
+use native.Mathlib.Nat.{add-zero}
 use native.Mathlib.Decide.{decLt}
 use native.Mathlib.Omega.{arith}
 use borrow.Author.Tests.{eq-eqb, ne-eqb}
 use lib.Dec.{eqb}
 use lib.Ieee.{Float, nan}
-use lib.ListN.{length, getD, set, length-append, length-map}
+use lib.ListN.{length, getD, drop, set, length-append, length-map}
 use lib.Seq.{sets, length-sets}
 use Rattle.closed.specs.Lists.{cells}
-use Rattle.closed.specs.Faces.{Face, corners}
+use Rattle.closed.specs.Faces.{Face, face, mapFace, corners}
+use Rattle.closed.specs.Rows.{emitted}
 use Rattle.closed.specs.Counting.{cells-one-more}
 use Rattle.closed.specs.Turning.{corners-append, length-corners}
 use Rattle.grid.specs.declared.Lattice.{Lattice}
 use Rattle.cells.specs.Extraction.{edgePoint}
+use Rattle.cells.specs.CellWords.{rowFaces}
+use Rattle.cells.specs.Rows.{firstFaces, one-more, rest-faces}
 use Rattle.extract.specs.SecondPass.{Places, place1, placeAll, vertexIn, Written, Room}
 use Rattle.numbering.specs.declared.Totals.{Totals}
 
@@ -77,33 +80,37 @@ module _ (table : List ℕ) (point : ℕ → List Float) where
   places-more s [] = omega arith
   places-more s (e ∷ es) = omega (arith, place-more s e, places-more (place1 table point s e) es)
 
-  pub place-three : (s0 s1 s2 s3 : Places) (x y z x′ y′ z′ : ℕ) → s1 ≡ place1 table point s0 x → s2 ≡ place1 table point s1 y → s3 ≡ place1 table point s2 z
-      → x ≡ x′ → y ≡ y′ → z ≡ z′ → s3 ≡ placeAll table point s0 (x′ ∷ y′ ∷ z′ ∷ [])
+  pub place-three : (s0 s1 s2 s3 : Places) (x y z : ℕ) → s1 ≡ place1 table point s0 x → s2 ≡ place1 table point s1 y → s3 ≡ place1 table point s2 z
+      → s3 ≡ placeAll table point s0 (x ∷ y ∷ z ∷ [])
   unfolding placeAll
-  place-three s0 s1 s2 s3 x y z x′ y′ z′ a b c p q r =
-      c ∙ ap (λ (s : Places). place1 table point s z) (b ∙ ap (λ (s : Places). place1 table point s y) a)
-      ∙ ap (λ (n : ℕ). place1 table point (place1 table point (place1 table point s0 x) y) n) r
-      ∙ ap (λ (n : ℕ). place1 table point (place1 table point (place1 table point s0 x) n) z′) q
-      ∙ ap (λ (n : ℕ). place1 table point (place1 table point (place1 table point s0 n) y′) z′) p
+  place-three s0 s1 s2 s3 x y z a b c = c ∙ ap (λ (s : Places). place1 table point s z) (b ∙ ap (λ (s : Places). place1 table point s y) a)
 
-  -- there is room for each of three where there is room for all
-  pub three-rooms : (s0 s1 s2 : Places) (x y z x′ y′ z′ : ℕ) → x ≡ x′ → y ≡ y′ → z ≡ z′ → s1 ≡ place1 table point s0 x → s2 ≡ place1 table point s1 y
-      → 3 * placeAll table point s0 (x′ ∷ y′ ∷ z′ ∷ []) .1 ≤ length (s0 .0)
-      → (3 * place1 table point s0 x .1 ≤ length (s0 .0)) × (3 * place1 table point s1 y .1 ≤ length (s1 .0)) × (3 * place1 table point s2 z .1 ≤ length (s2 .0))
-  three-rooms s0 s1 s2 x y z x′ y′ z′ p q r a b h =
-      let all : place1 table point s2 z ≡ placeAll table point s0 (x′ ∷ y′ ∷ z′ ∷ []) = place-three s0 s1 s2 (place1 table point s2 z) x y z x′ y′ z′ a b refl p q r in
-      let k1 : length (s1 .0) ≡ length (s0 .0) = ap (λ (s : Places). length (s .0)) a ∙ place-kept s0 x in
-      let k2 : length (s2 .0) ≡ length (s1 .0) = ap (λ (s : Places). length (s .0)) b ∙ place-kept s1 y in
-      let n2 : place1 table point s1 y .1 ≤ place1 table point s2 z .1 = omega (arith, ap (λ (s : Places). s .1) b, place-more s2 z) in
-      let n1 : place1 table point s0 x .1 ≤ place1 table point s1 y .1 = omega (arith, ap (λ (s : Places). s .1) a, place-more s1 y) in
-      let n3 = ap (λ (s : Places). s .1) all in
-      (omega (arith, n1, n2, n3, h), omega (arith, n2, n3, h, k1), omega (arith, n3, h, k1, k2))
+  -- there is room for the vertices of several edges: so there is for the first, and once that is placed for the rest
+  abbrev pub Fits : Places → List ℕ → Type 0
+  Fits s es = 3 * placeAll table point s es .1 ≤ length (s .0)
+
+  pub fits-first : (s : Places) (e : ℕ) (es : List ℕ) → Fits s (e ∷ es) → 3 * place1 table point s e .1 ≤ length (s .0)
+  unfolding placeAll
+  fits-first s e es h = omega (arith, h, places-more (place1 table point s e) es)
+
+  pub fits-rest : (s t : Places) (e : ℕ) (es : List ℕ) → Fits s (e ∷ es) → t ≡ place1 table point s e → Fits t es
+  unfolding placeAll
+  fits-rest s t e es h q = subst (λ (p : Places). Fits p es) (sym q) (omega (arith, h, place-kept s e))
+
+module _ {table : List ℕ} {point : ℕ → List Float} where
+  -- ---- what is written, and room, for a list of faces that is equal
+
+  pub written-as : {vs vt : List Float} {os ot : List ℕ} {a b : Totals} {fs gs : List Face} → fs ≡ gs → Written table point vs vt os ot a b fs → Written table point vs vt os ot a b gs
+  written-as {vs} {vt} {os} {ot} {a} {b} e w = subst (Written table point vs vt os ot a b) e w
+
+  pub room-as : {vs : List Float} {os : List ℕ} {a : Totals} {fs gs : List Face} → fs ≡ gs → Room table point vs os a fs → Room table point vs os a gs
+  room-as {vs} {os} {a} e r = subst (Room table point vs os a) e r
 
   -- ---- the faces of a part of the cells, and of the next part
 
-  pub written-none : (vs : List Float) (os : List ℕ) (had : Totals) → Written table point vs vs os os had had []
+  pub written-none : {vs : List Float} {os : List ℕ} {had : Totals} → Written table point vs vs os os had had []
   unfolding placeAll
-  written-none vs os had = record { placed = refl; written = refl; counted = omega arith }
+  written-none = record { placed = refl; written = refl; counted = omega arith }
 
   pub written-append : {vs vt vu : List Float} {os ot ou : List ℕ} {a b c : Totals} {fs gs : List Face}
       → Written table point vs vt os ot a b fs → Written table point vt vu ot ou b c gs → Written table point vs vu os ou a c (fs ++ gs)
@@ -113,7 +120,7 @@ module _ (table : List ℕ) (point : ℕ → List Float) where
       record {
         placed = y .placed
             ∙ ap (λ (s : Places). placeAll table point s (corners gs)) (x .placed)
-            ∙ sym (places-append (vs, a .vertices) (corners fs) (corners gs))
+            ∙ sym (places-append table point (vs, a .vertices) (corners fs) (corners gs))
             ∙ ap (placeAll table point (vs, a .vertices)) (sym (corners-append fs gs));
         written = y .written
             ∙ ap (λ (l : List ℕ). sets l (3 * b .faces) (map (vertexIn table) (corners gs))) (x .written)
@@ -124,7 +131,7 @@ module _ (table : List ℕ) (point : ℕ → List Float) where
       }
 
   pub vertices-kept : {vs vt : List Float} {os ot : List ℕ} {a b : Totals} {fs : List Face} → Written table point vs vt os ot a b fs → length vt ≡ length vs
-  vertices-kept {vs} {vt} {os} {ot} {a} {b} {fs} x = ap (λ (s : Places). length (s .0)) (x .placed) ∙ places-kept (vs, a .vertices) (corners fs)
+  vertices-kept {vs} {vt} {os} {ot} {a} {b} {fs} x = ap (λ (s : Places). length (s .0)) (x .placed) ∙ places-kept table point (vs, a .vertices) (corners fs)
 
   pub faces-kept : {vs vt : List Float} {os ot : List ℕ} {a b : Totals} {fs : List Face} → Written table point vs vt os ot a b fs → length ot ≡ length os
   faces-kept {vs} {vt} {os} {ot} {a} {b} {fs} x = ap length (x .written) ∙ length-sets os (3 * a .faces) (map (vertexIn table) (corners fs))
@@ -134,17 +141,18 @@ module _ (table : List ℕ) (point : ℕ → List Float) where
   pub room-next : {vs vt : List Float} {os ot : List ℕ} {a b : Totals} (fs gs hs : List Face) → Room table point vs os a (fs ++ gs ++ hs)
       → Written table point vs vt os ot a b fs → Room table point vt ot b gs
   room-next {vs} {vt} {os} {ot} {a} {b} fs gs hs r w =
+      let append = places-append table point in
       let all : placeAll table point (vs, a .vertices) (corners (fs ++ gs ++ hs)) ≡ placeAll table point (placeAll table point (vt, b .vertices) (corners gs)) (corners hs) =
       ap (placeAll table point (vs, a .vertices)) (corners-append (fs ++ gs) hs ∙ ap (λ (l : List ℕ). l ++ corners hs) (corners-append fs gs))
-      ∙ places-append (vs, a .vertices) (corners fs ++ corners gs) (corners hs)
-      ∙ ap (λ (s : Places). placeAll table point s (corners hs)) (places-append (vs, a .vertices) (corners fs) (corners gs)
+      ∙ append (vs, a .vertices) (corners fs ++ corners gs) (corners hs)
+      ∙ ap (λ (s : Places). placeAll table point s (corners hs)) (append (vs, a .vertices) (corners fs) (corners gs)
       ∙ ap (λ (s : Places). placeAll table point s (corners gs)) (sym (w .placed))) in
       record {
         vertices = omega (
           arith,
           r .vertices,
           ap (λ (s : Places). s .1) all,
-          places-more (placeAll table point (vt, b .vertices) (corners gs)) (corners hs),
+          places-more table point (placeAll table point (vt, b .vertices) (corners gs)) (corners hs),
           vertices-kept w,
         );
         faces = omega (arith, r .faces, w .counted, length-append (fs ++ gs) hs, length-append fs gs, faces-kept w);
@@ -165,21 +173,44 @@ cells-rest {A} (suc n) f k h = by-cases (decLt k (suc n)) (cells-rest n f k)
         let e : k ≡ suc n = omega arith in
         ([], sym (append-nil (cells n f ++ f n)) ∙ ap (λ (m : ℕ). cells m f ++ []) (sym e))
 
-pub room-cell : (table : List ℕ) (point : ℕ → List Float) {vs vt : List Float} {os ot : List ℕ} {a b : Totals} (n k : ℕ) (f : ℕ → List Face) → k < n
-    → Room table point vs os a (cells n f) → Written table point vs vt os ot a b (cells k f) → Room table point vt ot b (f k)
-room-cell table point {vs} {vt} {os} {ot} {a} {b} n k f h r w =
-    let t = cells-rest n f (k + 1) (omega arith) in
-    room-next table point (cells k f) (f k) (t .0)
-    (subst (Room table point vs os a) (t .1 ∙ ap (λ (l : List Face). l ++ t .0) (cells-one-more k f)) r) w
+-- ---- cell after cell: room for the next; none is written at first, then one more, then all
 
-pub written-more-cells : (table : List ℕ) (point : ℕ → List Float) {vs vt vu : List Float} {os ot ou : List ℕ} {a b c : Totals} (k : ℕ) (f : ℕ → List Face)
-    → Written table point vs vt os ot a b (cells k f) → Written table point vt vu ot ou b c (f k) → Written table point vs vu os ou a c (cells (k + 1) f)
-written-more-cells table point {vs} {vt} {vu} {os} {ot} {ou} {a} {b} {c} k f x y =
-    subst (Written table point vs vu os ou a c) (sym (cells-one-more k f)) (written-append table point x y)
+module _ {table : List ℕ} {point : ℕ → List Float} (f : ℕ → List Face) where
+  pub room-cell : {vs vt : List Float} {os ot : List ℕ} {a b : Totals} (n k : ℕ) → k < n
+      → Room table point vs os a (cells n f) → Written table point vs vt os ot a b (cells k f) → Room table point vt ot b (f k)
+  room-cell n k h r w =
+      let t = cells-rest n f (k + 1) (omega arith) in
+      room-next (cells k f) (f k) (t .0) (room-as (t .1 ∙ ap (λ (l : List Face). l ++ t .0) (cells-one-more k f)) r) w
 
-pub written-start : (table : List ℕ) (point : ℕ → List Float) (vs : List Float) (os : List ℕ) (had : Totals) (f : ℕ → List Face) → Written table point vs vs os os had had (cells 0 f)
-unfolding cells
-written-start table point vs os had f = written-none table point vs os had
+  pub written-start : {vs : List Float} {os : List ℕ} {had : Totals} → Written table point vs vs os os had had (cells 0 f)
+  unfolding cells
+  written-start = written-none
+
+  pub written-more-cells : {vs vt vu : List Float} {os ot ou : List ℕ} {a b c : Totals} (k : ℕ)
+      → Written table point vs vt os ot a b (cells k f) → Written table point vt vu ot ou b c (f k) → Written table point vs vu os ou a c (cells (k + 1) f)
+  written-more-cells k x y = written-as (sym (cells-one-more k f)) (written-append x y)
+
+  pub written-all : {vs vt : List Float} {os ot : List ℕ} {a b : Totals} {k n : ℕ} → k ≡ n → Written table point vs vt os ot a b (cells k f) → Written table point vs vt os ot a b (cells n f)
+  written-all e w = written-as (ap (λ (m : ℕ). cells m f) e) w
+
+-- ---- face after face of a row
+
+module _ {table : List ℕ} {point : ℕ → List Float} (offsets : List ℕ) (first case k : ℕ) where
+  pub room-face : {vs vt : List Float} {os ot : List ℕ} {a b : Totals} (f : Face) → k < length (emitted case) → f ≡ getD (emitted case) k (face 0 0 0)
+      → Room table point vs os a (rowFaces offsets first case) → Written table point vs vt os ot a b (firstFaces offsets first case k) → Room table point vt ot b (mapFace (λ e. first + getD offsets e 0) f ∷ [])
+  room-face f h e r w =
+      let g : Face → Face = mapFace (λ e. first + getD offsets e 0) in
+      let rest : List Face = map g (drop (k + 1) (emitted case)) in
+      room-as (ap (λ (x : Face). g x ∷ []) (sym e))
+      (room-next (firstFaces offsets first case k) (g (getD (emitted case) k (face 0 0 0)) ∷ []) rest
+      (room-as (rest-faces offsets first case (k + 1) ∙ ap (λ (l : List Face). l ++ rest) (one-more offsets first case k h)) r) w)
+
+  pub written-more-faces : {vs vt vu : List Float} {os ot ou : List ℕ} {a b c : Totals} (f : Face) → k < length (emitted case) → f ≡ getD (emitted case) k (face 0 0 0)
+      → Written table point vs vt os ot a b (firstFaces offsets first case k) → Written table point vt vu ot ou b c (mapFace (λ e. first + getD offsets e 0) f ∷ [])
+      → Written table point vs vu os ou a c (firstFaces offsets first case (k + 1))
+  written-more-faces f h e x y =
+      let g : Face → Face = mapFace (λ e. first + getD offsets e 0) in
+      written-as (sym (one-more offsets first case k h)) (written-append x (written-as (ap (λ (z : Face). g z ∷ []) e) y))
 
 -- ---- the three stores of a vertex
 

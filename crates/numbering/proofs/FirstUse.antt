@@ -1,6 +1,6 @@
 -- The first pass whole: from a table of zeros, the edges of all faces are numbered at first use, and the table holds the place of each, plus one.
 -- By `marked`; every edge lies in the table since it is crossed. Assumes nothing.
-use mathlib.Core.Path.{_≡_, refl, sym, ap, _∙_, subst}
+use mathlib.Core.Path.{_≡_, sym, ap, _∙_, subst}
 use mathlib.Core.List.{List, []}
 use Prim.Native.Nat.{ℕ, _-_, _*_, _<_}
 use native.Mathlib.Nat.{zero-add}
@@ -10,7 +10,7 @@ use Rattle.lists.specs.Lists.{tabulate}
 use Rattle.lists.specs.Tabulate.{tabulate-ext, tabulate-same}
 use Rattle.closed.specs.Lists.{All}
 use Rattle.closed.specs.Faces.{Face, corners}
-use Rattle.closed.specs.Numbering.{grow, dedup, used, slot}
+use Rattle.closed.specs.Numbering.{dedup, used, slot}
 use Rattle.closed.specs.Renumber.{slot-nil}
 use Rattle.grid.specs.Grid.{Counts}
 use Rattle.grid.specs.declared.Lattice.{Lattice}

@@ -4,7 +4,7 @@ use mathlib.Core.Path.{_≡_, refl, sym, ap, _∙_, subst}
 use mathlib.Core.Logic.{⊎-elim}
 use mathlib.Core.Bool.{Bool, true, false, cond}
 use mathlib.Core.List.{List, [], _∷_, _++_}
-use Prim.Native.Nat.{ℕ, suc, _+_, _*_, _≤_, _<_}
+use Prim.Native.Nat.{ℕ, _+_, _*_, _≤_, _<_}
 use native.Mathlib.Omega.{arith}
 use borrow.Author.Tests.{eq-eqb, ne-eqb}
 use lib.Dec.{eqb}
@@ -90,14 +90,11 @@ mark-old t n e p q z =
 pub mark-step : (t t′ : List ℕ) (n n′ e : ℕ) → _≡_ {A = Marks} (t′, n′) (mark1 (t, n) e) → (length t′ ≡ length t) × (n′ ≤ n + 1)
 mark-step t t′ n n′ e q = (ap (λ (s : Marks). length (s .0)) q ∙ mark-kept (t, n) e, omega (arith, ap (λ (s : Marks). s .1) q, mark-more (t, n) e))
 
-pub mark-three : (s0 s1 s2 s3 : Marks) (x y z x′ y′ z′ : ℕ) → s1 ≡ mark1 s0 x → s2 ≡ mark1 s1 y → s3 ≡ mark1 s2 z → x ≡ x′ → y ≡ y′ → z ≡ z′
+-- the edges as code names them, x, y and z, and as the contract has them
+pub mark-three : (s0 : Marks) {s1 s2 s3 : Marks} {x y z x′ y′ z′ : ℕ} → s1 ≡ mark1 s0 x → s2 ≡ mark1 s1 y → s3 ≡ mark1 s2 z → x ≡ x′ → y ≡ y′ → z ≡ z′
     → s3 ≡ markAll s0 (x′ ∷ y′ ∷ z′ ∷ [])
 unfolding markAll
-mark-three s0 s1 s2 s3 x y z x′ y′ z′ a b c p q r =
-    c ∙ ap (λ (s : Marks). mark1 s z) (b ∙ ap (λ (s : Marks). mark1 s y) a)
-    ∙ ap (λ (n : ℕ). mark1 (mark1 (mark1 s0 x) y) n) r
-    ∙ ap (λ (n : ℕ). mark1 (mark1 (mark1 s0 x) n) z′) q
-    ∙ ap (λ (n : ℕ). mark1 (mark1 (mark1 s0 n) y′) z′) p
+mark-three s0 a b c p q r = rw (c, b, a, p, q, r) refl
 
 pub marks-append : (s : Marks) (a b : List ℕ) → markAll s (a ++ b) ≡ markAll (markAll s a) b
 unfolding markAll
@@ -116,9 +113,12 @@ marks-more s (e ∷ es) = omega (arith, marks-more (mark1 s e) es, mark-more s e
 
 -- ---- the faces of a part of the cells, and of the next part
 
-pub numbered-none : (t : List ℕ) (had : Totals) → Numbered t t had had []
+pub numbered-as : {t u : List ℕ} {a b : Totals} {fs gs : List Face} → fs ≡ gs → Numbered t u a b fs → Numbered t u a b gs
+numbered-as {t} {u} {a} {b} e x = subst (Numbered t u a b) e x
+
+pub numbered-none : {t : List ℕ} {had : Totals} → Numbered t t had had []
 unfolding markAll
-numbered-none t had = record { marks = refl; counted = omega arith }
+numbered-none = record { marks = refl; counted = omega arith }
 
 pub numbered-append : {t u v : List ℕ} {a b c : Totals} {fs gs : List Face} → Numbered t u a b fs → Numbered u v b c gs → Numbered t v a c (fs ++ gs)
 numbered-append {t} {u} {v} {a} {b} {c} {fs} {gs} x y =
@@ -139,15 +139,19 @@ numbered-more {t} {u} {a} {b} {fs} x =
 
 -- ---- the cells of a line, of a plane and of all, one more at a time
 
-pub numbered-start : (t : List ℕ) (had : Totals) (f : ℕ → List Face) → Numbered t t had had (cells 0 f)
-unfolding cells
-numbered-start t had f = numbered-none t had
+module _ (f : ℕ → List Face) where
+  pub numbered-start : {t : List ℕ} {had : Totals} → Numbered t t had had (cells 0 f)
+  unfolding cells
+  numbered-start = numbered-none
 
-pub numbered-more-cells : {t u v : List ℕ} {a b c : Totals} (k : ℕ) (f : ℕ → List Face) → Numbered t u a b (cells k f) → Numbered u v b c (f k) → Numbered t v a c (cells (k + 1) f)
-numbered-more-cells {t} {u} {v} {a} {b} {c} k f x y = subst (Numbered t v a c) (sym (cells-one-more k f)) (numbered-append x y)
+  pub numbered-more-cells : {t u v : List ℕ} {a b c : Totals} (k : ℕ) → Numbered t u a b (cells k f) → Numbered u v b c (f k) → Numbered t v a c (cells (k + 1) f)
+  numbered-more-cells k x y = numbered-as (sym (cells-one-more k f)) (numbered-append x y)
 
-pub few-next : {t u : List ℕ} {a b : Totals} {fs : List Face} (m n : ℕ) → Numbered t u a b fs → length fs ≤ 5 → Few a m → m + 1 ≤ n → Few b n
-few-next m n x l few h = record { vertices = omega (arith, numbered-more x, few .vertices); faces = omega (arith, x .counted, few .faces) }
+  pub numbered-all : {t u : List ℕ} {a b : Totals} {k n : ℕ} → k ≡ n → Numbered t u a b (cells k f) → Numbered t u a b (cells n f)
+  numbered-all e x = numbered-as (ap (λ (m : ℕ). cells m f) e) x
 
-pub few-later : {a : Totals} (m n : ℕ) → Few a m → m ≤ n → Few a n
-few-later m n few h = record { vertices = omega (arith, few .vertices); faces = omega (arith, few .faces) }
+pub few-next : {t u : List ℕ} {a b : Totals} {fs : List Face} {m n : ℕ} → Numbered t u a b fs → length fs ≤ 5 → Few a m → m + 1 ≤ n → Few b n
+few-next x l few h = record { vertices = omega (arith, numbered-more x, few .vertices); faces = omega (arith, x .counted, few .faces) }
+
+pub few-later : {a : Totals} {m n : ℕ} → Few a m → m ≤ n → Few a n
+few-later few h = record { vertices = omega (arith, few .vertices); faces = omega (arith, few .faces) }

@@ -1,10 +1,40 @@
--- `cells::vertex::point` meets its contract.
--- Assumes nothing.
+-- The lower node is the edge's and the upper one a stride further, both inside (`upper`); the counts are small (`small`); so what is made of them is the vertex.
+use Prim.Native.Nat.{_+_, _≤_, _<_}
 use native.Mathlib.Omega.{arith}
+use lib.ListN.{length, getD}
 use Rattle.cells.proofs.Points.{point-is, upper-inside, coords-small}
 use borrow.Author.Needs.{needs}
 use Rattle.cells.proofs.vertex.point.Statement.{statement}
 use Rattle.cells.proofs.vertex.point.Tie as tie
+
+-- ---- the places: each seen from one further on
+
+abbrev entry : tie.After-coords → tie.Start
+entry c = c .before .before .before .before
+
+abbrev found : tie.After-stride-of → tie.After-coords
+found c = c .before .before .before
+
+abbrev strode : tie.After-crossing-at → tie.After-stride-of
+strode c = c .before .before
+
+abbrev crossed : tie.After-count-along3 → tie.After-crossing-at
+crossed c = c .before .before .before
+
+abbrev counted : tie.After-coordinate3 → tie.After-count-along3
+counted c = c .before .before .before .before .before .before .before .before .before
+
+-- ---- what is known there
+
+upper : (c : tie.After-stride-of) → c .before .before .place .result + c .stride-of .result < length (entry (found c) .args .values .now)
+upper c =
+    let d = found c in
+    upper-inside (entry d .pre .1) (d .before .before .axis .ensures) (d .before .node .ensures) (c .before .before .place .ensures) (c .stride-of .ensures)
+
+small : (c : tie.After-coords) → (getD (c .coords .result) 0 0 ≤ 16777216) × (getD (c .coords .result) 1 0 ≤ 16777216) × (getD (c .coords .result) 2 0 ≤ 16777216)
+small c = coords-small (entry c .pre .1) (c .before .node .ensures) (c .coords .ensures)
+
+-- ---- the needs
 
 axis-requires : tie.Need-axis-requires
 axis-requires c κs = search needs
@@ -28,24 +58,13 @@ stride-of-requires : tie.Need-stride-of-requires
 stride-of-requires c κs = search needs
 
 add-crossing-at : tie.Need-add-crossing-at
-add-crossing-at c =
-    let s = c .before .before .before .before .before .before .before in
-    let h = upper-inside (s .args .values .now) (s .args .t2) (s .args .edge .0) (c .before .before .before .before .before .axis .result) (c .before .before .before .before .node .result .0) (c .before .before .place .result) (c .stride-of .result) (s .pre .1)
-    (c .before .before .before .before .before .axis .ensures) (c .before .before .before .before .node .ensures) (c .before .before .place .ensures) (c .stride-of .ensures) in
-    omega (arith, h, s .pre .1 .most)
+add-crossing-at c = omega (arith, upper c, entry (found c) .pre .1 .most)
 
 mul-crossing-at-2 : tie.Need-mul-crossing-at-2
-mul-crossing-at-2 c =
-    let s = c .before .before .before .before .before .before .before in
-    let h = upper-inside (s .args .values .now) (s .args .t2) (s .args .edge .0) (c .before .before .before .before .before .axis .result) (c .before .before .before .before .node .result .0) (c .before .before .place .result) (c .stride-of .result) (s .pre .1)
-    (c .before .before .before .before .before .axis .ensures) (c .before .before .before .before .node .ensures) (c .before .before .place .ensures) (c .stride-of .ensures) in
-    omega (arith, h, s .pre .1 .most)
+mul-crossing-at-2 c = omega (arith, upper c, entry (found c) .pre .1 .most)
 
 shared-slice-read-crossing-at-2 : tie.Need-shared-slice-read-crossing-at-2
-shared-slice-read-crossing-at-2 c =
-    let s = c .before .before .before .before .before .before .before .before in
-    upper-inside (s .args .values .now) (s .args .t2) (s .args .edge .0) (c .before .before .before .before .before .before .axis .result) (c .before .before .before .before .before .node .result .0) (c .before .before .before .place .result) (c .before .stride-of .result) (s .pre .1)
-    (c .before .before .before .before .before .before .axis .ensures) (c .before .before .before .before .before .node .ensures) (c .before .before .before .place .ensures) (c .before .stride-of .ensures)
+shared-slice-read-crossing-at-2 c = upper (c .before)
 
 crossing-at-requires : tie.Need-crossing-at-requires
 crossing-at-requires c κs = search needs
@@ -54,25 +73,19 @@ array-read-count-along : tie.Need-array-read-count-along
 array-read-count-along c = search needs
 
 count-along-requires : tie.Need-count-along-requires
-count-along-requires c κs =
-    let s = c .before .before .before .before .before .before .before .before .before in
-    coords-small (s .args .values .now) (s .args .t2) (s .args .edge .0) (c .before .before .before .before .before .before .node .result .0) (c .before .before .before .before .before .coords .result) (s .pre .1) (c .before .before .before .before .before .before .node .ensures) (c .before .before .before .before .before .coords .ensures) .0
+count-along-requires c κs = small (found (strode c)) .0
 
 array-read-count-along-2 : tie.Need-array-read-count-along-2
 array-read-count-along-2 c = search needs
 
 count-along-requires-2 : tie.Need-count-along-requires-2
-count-along-requires-2 c κs =
-    let s = c .before .before .before .before .before .before .before .before .before .before in
-    coords-small (s .args .values .now) (s .args .t2) (s .args .edge .0) (c .before .before .before .before .before .before .before .node .result .0) (c .before .before .before .before .before .before .coords .result) (s .pre .1) (c .before .before .before .before .before .before .before .node .ensures) (c .before .before .before .before .before .before .coords .ensures) .1
+count-along-requires-2 c κs = small (found (strode (c .before))) .1
 
 array-read-count-along-3 : tie.Need-array-read-count-along-3
 array-read-count-along-3 c = search needs
 
 count-along-requires-3 : tie.Need-count-along-requires-3
-count-along-requires-3 c κs =
-    let s = c .before .before .before .before .before .before .before .before .before .before .before in
-    coords-small (s .args .values .now) (s .args .t2) (s .args .edge .0) (c .before .before .before .before .before .before .before .before .node .result .0) (c .before .before .before .before .before .before .before .coords .result) (s .pre .1) (c .before .before .before .before .before .before .before .before .node .ensures) (c .before .before .before .before .before .before .before .coords .ensures) .2
+count-along-requires-3 c κs = small (found (strode (c .before .before))) .2
 
 element-copy-out-coordinate : tie.Need-element-copy-out-coordinate
 element-copy-out-coordinate c = search needs
@@ -103,10 +116,15 @@ coordinate-requires-3 c κs = search needs
 
 returns : tie.Need-returns
 returns c =
-    let a = c .before .before .before .before .before .before .before .before .before .before .before .before .before .before .before .before .before .before .before .before .before .args in
+    let k = counted c in
+    let t = crossed k in
+    let d = strode t in
+    let p = found d in
+    let a = entry p .args in
     point-is (a .values .now) (a .t2) (a .iso) (a .edge .0)
-    (c .before .before .before .before .before .before .before .before .before .before .before .before .before .before .before .before .before .before .before .axis .result) (c .before .before .before .before .before .before .before .before .before .before .before .before .before .before .before .before .before .before .node .result .0) (c .before .before .before .before .before .before .before .before .before .before .before .before .before .before .before .before .place .result) (c .before .before .before .before .before .before .before .before .before .before .before .before .before .before .stride-of .result) (c .before .before .before .before .before .before .before .before .before .before .before .before .before .before .before .before .before .coords .result) (c .before .before .before .before .before .before .before .before .before .before .before .before .crossing-at .result) (c .before .before .before .before .before .before .before .before .before .before .before .count-along .result) (c .before .before .before .before .before .before .before .before .before .before .count-along2 .result) (c .before .before .before .before .before .before .before .before .before .count-along3 .result) (c .before .before .before .before .before .before .coordinate .result) (c .before .before .before .coordinate2 .result) (c .coordinate3 .result)
-    (c .before .before .before .before .before .before .before .before .before .before .before .before .before .before .before .before .before .before .before .axis .ensures) (c .before .before .before .before .before .before .before .before .before .before .before .before .before .before .before .before .before .before .node .ensures) (c .before .before .before .before .before .before .before .before .before .before .before .before .before .before .before .before .before .coords .ensures) (c .before .before .before .before .before .before .before .before .before .before .before .before .before .before .before .before .place .ensures) (c .before .before .before .before .before .before .before .before .before .before .before .before .before .before .stride-of .ensures) (c .before .before .before .before .before .before .before .before .before .before .before .before .crossing-at .ensures) (c .before .before .before .before .before .before .before .before .before .before .before .count-along .ensures) (c .before .before .before .before .before .before .before .before .before .before .count-along2 .ensures) (c .before .before .before .before .before .before .before .before .before .count-along3 .ensures) (c .before .before .before .before .before .before .coordinate .ensures) (c .before .before .before .coordinate2 .ensures) (c .coordinate3 .ensures)
+    (p .before .before .axis .ensures) (p .before .node .ensures) (p .coords .ensures) (d .before .before .place .ensures) (d .stride-of .ensures) (t .crossing-at .ensures)
+    (k .before .before .count-along .ensures) (k .before .count-along2 .ensures) (k .count-along3 .ensures)
+    (c .before .before .before .before .before .before .coordinate .ensures) (c .before .before .before .coordinate2 .ensures) (c .coordinate3 .ensures)
 
 pub point-spec : {M : Type 1} → statement M
 point-spec =

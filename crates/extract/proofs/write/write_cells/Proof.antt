@@ -1,15 +1,17 @@
--- `extract::write::write_cells` meets its contract: the first k cells are written, and the near side of the next is at hand.
--- Assumes nothing.
+-- After k turns the first k cells are written, and the near side of the next is at hand. What is read of that cell is its case and its first edge, so its row's
+-- faces are its own (`its-faces`), and where there is room for all cells there is for it.
 use mathlib.Core.Path.{_≡_, sym, ap, _∙_, subst}
+use mathlib.Core.List.{List}
 use Prim.Native.Nat.{ℕ, _+_, _-_, _*_, _<_, _≤_}
 use native.Mathlib.Omega.{arith}
 use lib.ListN.{length}
+use Rattle.closed.specs.Faces.{Face}
 use Rattle.closed.specs.Grid.{edge}
 use Rattle.cells.specs.Extraction.{countY, countZ, edgePoint}
-use Rattle.cells.specs.CellWords.{sideAt, caseAt, facesAt, lineFaces}
-use Rattle.extract.specs.SecondPass.{Written, Room}
-use Rattle.cells.specs.Cells.{case-below, side-small, two-sides}
-use Rattle.extract.proofs.Placing.{written-start, written-more-cells, room-cell, vertices-kept, faces-kept}
+use Rattle.cells.specs.CellWords.{sideAt, caseAt, rowFaces, facesAt, lineFaces}
+use Rattle.extract.specs.SecondPass.{Written}
+use Rattle.cells.specs.Cells.{case-below, two-sides}
+use Rattle.extract.proofs.Placing.{written-as, room-as, written-start, written-more-cells, written-all, room-cell, vertices-kept, faces-kept}
 use Rattle.extract.proofs.Edges.{edges-of}
 use Rattle.cells.specs.Rows.{cell-faces}
 use borrow.Author.Needs.{needs}
@@ -26,6 +28,70 @@ Inv-loop vertices₀ faces₀ values table iso from offsets triangles lattice ny
 abbrev μ-loop : tie.MeasureT-loop
 μ-loop vertices₀ faces₀ values table iso from offsets triangles lattice ny nz near₀ placed₀ written₀ k₀ vertices faces near placed written k = nz - k
 
+-- ---- the places
+
+abbrev entry : tie.At-loop Inv-loop μ-loop → tie.Start Inv-loop μ-loop
+entry c = c .before .before .before .before .before .before .before .before
+
+-- the far side is known, and the turn begins, seen from where the cell's first edge is named; and that, seen from the turn's end
+abbrev farther : tie.After-of3 Inv-loop μ-loop → tie.After-side-of2 Inv-loop μ-loop
+farther c = c .before .before .before
+
+abbrev turn : tie.After-of3 Inv-loop μ-loop → tie.In-loop Inv-loop μ-loop
+turn c = farther c .before .before .before
+
+abbrev named : tie.After-slice-known4 Inv-loop μ-loop → tie.After-of3 Inv-loop μ-loop
+named c = c .before .before .before .before .before .before .before
+
+abbrev start : tie.After-of3 Inv-loop μ-loop → tie.Start Inv-loop μ-loop
+start c = entry (turn c .before)
+
+-- ---- what is known there
+
+abbrev side : tie.Start Inv-loop μ-loop → ℕ → ℕ
+side s n = sideAt (s .args .values .now) (countY (s .args .t5)) (countZ (s .args .t5)) (s .args .iso) n
+
+abbrev case-of : tie.Start Inv-loop μ-loop → ℕ → ℕ
+case-of s n = caseAt (s .args .values .now) (countY (s .args .t5)) (countZ (s .args .t5)) (s .args .iso) n
+
+abbrev faces-of : tie.Start Inv-loop μ-loop → ℕ → List Face
+faces-of s n = facesAt (s .args .values .now) (countY (s .args .t5)) (countZ (s .args .t5)) (s .args .iso) n
+
+-- the first node of the next cell; all corners of that cell are nodes
+abbrev node : tie.At-loop Inv-loop μ-loop → ℕ
+node c = entry c .args .from .0 + c .loop .k
+
+abbrev Inside : tie.Start Inv-loop μ-loop → ℕ → Type 0
+Inside s n = n + countY (s .args .t5) * countZ (s .args .t5) + countZ (s .args .t5) + 1 < length (s .args .values .now)
+
+inside : (c : tie.In-loop Inv-loop μ-loop) → Inside (entry (c .before)) (node (c .before))
+inside c = omega (arith, entry (c .before) .pre .0 .nodes, c .loop-test .taken)
+
+-- its first edge, its far side, its case and its faces
+its-edge : (c : tie.After-of3 Inv-loop μ-loop) → c .of3 .result .0 ≡ edge (node (turn c .before)) 0
+its-edge c = c .of3 .ensures ∙ ap (λ (n : ℕ). edge n 0) (c .before .of2 .ensures)
+
+its-far : (c : tie.After-of3 Inv-loop μ-loop) → farther c .side-of2 .result ≡ side (start c) (node (turn c .before) + 1)
+its-far c = farther c .side-of2 .ensures ∙ ap (side (start c)) (farther c .before .of .ensures)
+
+abbrev case-read : tie.After-of3 Inv-loop μ-loop → ℕ
+case-read c = turn c .before .loop .near + 16 * farther c .side-of2 .result
+
+its-case : (c : tie.After-of3 Inv-loop μ-loop) → case-read c ≡ case-of (start c) (node (turn c .before))
+its-case c =
+    let a = start c .args in
+    two-sides (a .values .now) (countY (a .t5)) (countZ (a .t5)) (a .iso) (node (turn c .before)) _ _ (turn c .before .loop .inv .1) (its-far c)
+
+its-faces : (c : tie.After-of3 Inv-loop μ-loop) → rowFaces (start c .args .offsets .now) (c .of3 .result .0) (case-read c) ≡ faces-of (start c) (node (turn c .before))
+its-faces c = let a = start c .args in cell-faces (a .values .now) (countY (a .t5)) (countZ (a .t5)) (a .iso) _ _ _ _ (start c .pre .2) (its-edge c) (its-case c)
+
+small : (c : tie.After-of3 Inv-loop μ-loop) → case-read c < 256
+small c =
+    let a = start c .args in
+    subst (λ (n : ℕ). n < 256) (sym (its-case c)) (case-below (a .values .now) (countY (a .t5)) (countZ (a .t5)) (a .iso) _)
+
+-- ---- the needs
+
 element-copy-out-ny : tie.Need-element-copy-out-ny Inv-loop μ-loop
 element-copy-out-ny c = search needs
 
@@ -33,120 +99,82 @@ element-copy-out-nz : tie.Need-element-copy-out-nz Inv-loop μ-loop
 element-copy-out-nz c = search needs
 
 side-of-requires : tie.Need-side-of-requires Inv-loop μ-loop
-side-of-requires c κs = omega (arith, c .before .before .before .before .before .before .pre .0 .nodes, c .before .before .before .before .before .before .pre .0 .counts .two-z)
+side-of-requires c κs = let s = c .before .before .before .before .before .before in omega (arith, s .pre .0 .nodes, s .pre .0 .counts .two-z)
 
 loop-holds : tie.Need-loop-holds Inv-loop μ-loop
 loop-holds c =
     let s = c .before .before .before .before .before .before .before in
-    let a = s .args in
-    let ny = countY (a .t5) in
-    let nz = countZ (a .t5) in
-    let e : a .from .0 ≡ a .from .0 + 0 = omega arith in (
-      written-start (a .table .now) (edgePoint (a .values .now) (a .t5) (a .iso)) (a .vertices .now) (a .faces .now) (a .had) (λ k. facesAt (a .values .now) ny nz (a .iso) (a .from .0 + k)),
-      c .side-of .ensures ∙ ap (sideAt (a .values .now) ny nz (a .iso)) e,
-      omega (arith, s .pre .0 .counts .two-z),
-    )
+    let e : s .args .from .0 ≡ s .args .from .0 + 0 = omega arith in
+    (written-start _, c .side-of .ensures ∙ ap (side s) e, omega (arith, s .pre .0 .counts .two-z))
 
 add-loop : tie.Need-add-loop Inv-loop μ-loop
-add-loop c = omega (arith, c .loop .inv .2, c .before .before .before .before .before .before .before .before .pre .0 .nodes, c .before .before .before .before .before .before .before .before .pre .0 .most)
+add-loop c = omega (arith, c .loop .inv .2, entry c .pre .0 .nodes, entry c .pre .0 .most)
 
 add-of : tie.Need-add-of Inv-loop μ-loop
-add-of c = omega (arith, c .before .before .before .before .before .before .before .before .before .before .pre .0 .nodes, c .before .before .before .before .before .before .before .before .before .before .pre .0 .most, c .before .loop-test .taken)
+add-of c = omega (arith, inside (c .before), entry (c .before .before) .pre .0 .most)
 
 add-of-2 : tie.Need-add-of-2 Inv-loop μ-loop
-add-of-2 c = omega (arith, c .before .before .before .before .before .before .before .before .before .before .pre .0 .nodes, c .before .before .before .before .before .before .before .before .before .before .pre .0 .most, c .before .loop-test .taken)
+add-of-2 c = omega (arith, inside (c .before), entry (c .before .before) .pre .0 .most)
 
 of-requires : tie.Need-of-requires Inv-loop μ-loop
 of-requires c κs = search needs
 
 side-of-requires-2 : tie.Need-side-of-requires-2 Inv-loop μ-loop
-side-of-requires-2 c κs = omega (arith, c .of .ensures, c .before .before .before .before .before .before .before .before .before .before .before .pre .0 .nodes, c .before .before .loop-test .taken)
+side-of-requires-2 c κs = omega (arith, c .of .ensures, inside (c .before .before))
 
 add-of-3 : tie.Need-add-of-3 Inv-loop μ-loop
-add-of-3 c = omega (arith, c .before .before .before .before .before .before .before .before .before .before .before .before .before .pre .0 .nodes, c .before .before .before .before .before .before .before .before .before .before .before .before .before .pre .0 .most, c .before .before .before .before .loop-test .taken)
+add-of-3 c = let t = c .before .before .before .before in omega (arith, inside t, entry (t .before) .pre .0 .most)
 
 of-requires-2 : tie.Need-of-requires-2 Inv-loop μ-loop
 of-requires-2 c κs = search needs
 
 of-requires-3 : tie.Need-of-requires-3 Inv-loop μ-loop
-of-requires-3 c κs = (omega (arith, c .of2 .ensures, c .before .before .before .before .before .before .before .before .before .before .before .before .before .before .pre .0 .nodes, c .before .before .before .before .before .before .before .before .before .before .before .before .before .before .pre .0 .most, c .before .before .before .before .before .loop-test .taken), omega arith)
+of-requires-3 c κs = let t = c .before .before .before .before .before in (omega (arith, c .of2 .ensures, inside t, entry (t .before) .pre .0 .most), omega arith)
 
 mul-write-cell : tie.Need-mul-write-cell Inv-loop μ-loop
-mul-write-cell c =
-    let a = c .before .before .before .before .before .before .before .before .before .before .before .before .before .before .before .before .before .args in
-    omega (arith, c .before .before .before .before .before .side-of2 .ensures, side-small (a .values .now) (countY (a .t5)) (countZ (a .t5)) (a .iso) (c .before .before .before .before .before .before .of .result .0))
+mul-write-cell c = omega (arith, small (c .before .before))
 
 add-write-cell : tie.Need-add-write-cell Inv-loop μ-loop
-add-write-cell c =
-    let a = c .before .before .before .before .before .before .before .before .before .before .before .before .before .before .before .before .before .args in
-    let l = c .before .before .before .before .before .before .before .before .before .loop in
-    let small = side-small (a .values .now) (countY (a .t5)) (countZ (a .t5)) (a .iso) in
-    omega (arith, c .before .before .before .before .before .side-of2 .ensures, small (c .before .before .before .before .before .before .of .result .0), l .inv .1, small (a .from .0 + l .k))
+add-write-cell c = omega (arith, small (c .before .before))
 
 write-cell-requires : tie.Need-write-cell-requires Inv-loop μ-loop
 write-cell-requires c κs =
-    let s = c .before .before .before .before .before .before .before .before .before .before .before .before .before .before .before .before .before in
-    let l = c .before .before .before .before .before .before .before .before .before .loop in
-    let t = c .before .before .before .before .before .before .before .before .loop-test .taken in
+    let d = c .before .before in
+    let l = turn d .before in
+    let s = entry l in
     let a = s .args in
-    let ny = countY (a .t5) in
-    let nz = countZ (a .t5) in
-    let m = a .from .0 + l .k in
-    let first : c .before .before .of3 .result .0 ≡ edge m 0 = c .before .before .of3 .ensures ∙ ap (λ (m : ℕ). edge m 0) (c .before .before .before .of2 .ensures) in
-    let far = c .before .before .before .before .before .side-of2 .ensures ∙ ap (sideAt (a .values .now) ny nz (a .iso)) (c .before .before .before .before .before .before .of .ensures) in
-    let case : l .near + 16 * c .before .before .before .before .before .side-of2 .result ≡ caseAt (a .values .now) ny nz (a .iso) m = two-sides (a .values .now) ny nz (a .iso) m (l .near) (c .before .before .before .before .before .side-of2 .result) (l .inv .1) far in
-    let h : m + ny * nz + nz + 1 < length (a .values .now) = omega (arith, s .pre .0 .nodes, t) in
-    let less : l .k < nz - 1 = omega (arith, t) in (
+    let less : l .loop .k < countZ (a .t5) - 1 = omega (arith, turn d .loop-test .taken) in (
       s .pre .0 .counts,
-      edges-of (a .values .now) (a .t5) m (length (a .table .now)) (c .before .before .of3 .result .0) (a .offsets .now) (s .pre .2) first h (s .pre .0 .edges) (s .pre .0 .most),
-      subst (λ (n : ℕ). n < 256) (sym case) (case-below (a .values .now) ny nz (a .iso) m),
-      subst (Room (a .table .now) (edgePoint (a .values .now) (a .t5) (a .iso)) (l .vertices) (l .faces) (record { vertices = l .placed; faces = l .written }))
-          (sym (cell-faces (a .values .now) ny nz (a .iso) m (c .before .before .of3 .result .0) (l .near + 16 * c .before .before .before .before .before .side-of2 .result) (a .offsets .now) (s .pre .2) first case))
-          (room-cell (a .table .now) (edgePoint (a .values .now) (a .t5) (a .iso)) (nz - 1) (l .k) (λ k. facesAt (a .values .now) ny nz (a .iso) (a .from .0 + k)) less (s .pre .1) (l .inv .0)),
+      edges-of (a .values .now) (a .t5) (node l) _ _ _ (s .pre .2) (its-edge d) (inside (turn d)) (s .pre .0 .edges) (s .pre .0 .most),
+      small d,
+      room-as (sym (its-faces d)) (room-cell _ _ _ less (s .pre .1) (l .loop .inv .0)),
       s .pre .3,
     )
 
 add-k : tie.Need-add-k Inv-loop μ-loop
-add-k c = omega (arith, c .before .before .before .before .before .before .before .before .before .before .before .before .before .before .loop .inv .2, c .before .before .before .before .before .before .before .before .before .before .before .before .before .before .before .before .before .before .before .before .before .before .pre .0 .nodes, c .before .before .before .before .before .before .before .before .before .before .before .before .before .before .before .before .before .before .before .before .before .before .pre .0 .most)
+add-k c = let t = turn (named c) in omega (arith, inside t, entry (t .before) .pre .0 .most)
 
 loop-less : tie.Need-loop-less Inv-loop μ-loop
-loop-less c = omega (arith, c .before .before .before .before .before .before .before .before .before .before .before .before .before .loop-test .taken)
+loop-less c = omega (arith, turn (named c) .loop-test .taken)
 
 loop-again : tie.Need-loop-again Inv-loop μ-loop
 loop-again c =
-    let s = c .before .before .before .before .before .before .before .before .before .before .before .before .before .before .before .before .before .before .before .before .before .before in
-    let l = c .before .before .before .before .before .before .before .before .before .before .before .before .before .before .loop in
-    let a = s .args in
-    let ny = countY (a .t5) in
-    let nz = countZ (a .t5) in
-    let m = a .from .0 + l .k in
-    let o = c .before .before .before .before .write-cell in
-    let first : c .before .before .before .before .before .before .before .of3 .result .0 ≡ edge m 0 = c .before .before .before .before .before .before .before .of3 .ensures ∙ ap (λ (m : ℕ). edge m 0) (c .before .before .before .before .before .before .before .before .of2 .ensures) in
-    let far = c .before .before .before .before .before .before .before .before .before .before .side-of2 .ensures ∙ ap (sideAt (a .values .now) ny nz (a .iso)) (c .before .before .before .before .before .before .before .before .before .before .before .of .ensures) in
-    let next : m + 1 ≡ a .from .0 + (l .k + 1) = omega arith in (
-      written-more-cells (a .table .now) (edgePoint (a .values .now) (a .t5) (a .iso)) (l .k) (λ k. facesAt (a .values .now) ny nz (a .iso) (a .from .0 + k)) (l .inv .0)
-          (subst (Written (a .table .now) (edgePoint (a .values .now) (a .t5) (a .iso)) (l .vertices) (o .last .0) (l .faces) (o .last .1 .0) (record { vertices = l .placed; faces = l .written }) (o .result))
-          (cell-faces (a .values .now) ny nz (a .iso) m (c .before .before .before .before .before .before .before .of3 .result .0) (l .near + 16 * c .before .before .before .before .before .before .before .before .before .before .side-of2 .result) (a .offsets .now) (s .pre .2) first
-          (two-sides (a .values .now) ny nz (a .iso) m (l .near) (c .before .before .before .before .before .before .before .before .before .before .side-of2 .result) (l .inv .1) far))
-          (o .ensures)),
-      far ∙ ap (sideAt (a .values .now) ny nz (a .iso)) next,
-      omega (arith, c .before .before .before .before .before .before .before .before .before .before .before .before .before .loop-test .taken),
+    let d = named c in
+    let l = turn d .before in
+    let next : node l + 1 ≡ entry l .args .from .0 + (l .loop .k + 1) = omega arith in (
+      written-more-cells _ _ (l .loop .inv .0) (written-as (its-faces d) (c .before .before .before .before .write-cell .ensures)),
+      its-far d ∙ ap (side (entry l)) next,
+      omega (arith, turn d .loop-test .taken),
     )
 
 same-length : tie.Need-same-length Inv-loop μ-loop
-same-length c = let s = c .before .before .before .before .before .before .before .before .before in vertices-kept (s .args .table .now) (edgePoint (s .args .values .now) (s .args .t5) (s .args .iso)) (c .before .loop .inv .0)
+same-length c = vertices-kept (c .before .loop .inv .0)
 
 same-length-2 : tie.Need-same-length-2 Inv-loop μ-loop
-same-length-2 c = let s = c .before .before .before .before .before .before .before .before .before in faces-kept (s .args .table .now) (edgePoint (s .args .values .now) (s .args .t5) (s .args .iso)) (c .before .loop .inv .0)
+same-length-2 c = faces-kept (c .before .loop .inv .0)
 
 returns : tie.Need-returns Inv-loop μ-loop
-returns c =
-    let s = c .before .before .before .before .before .before .before .before .before in
-    let l = c .before .loop in
-    let a = s .args in
-    let e : l .k ≡ countZ (a .t5) - 1 = omega (arith, l .inv .2, c .loop-test .left) in
-    subst (λ (k : ℕ). Written (a .table .now) (edgePoint (a .values .now) (a .t5) (a .iso)) (a .vertices .now) (l .vertices) (a .faces .now) (l .faces) (a .had) (record { vertices = l .placed; faces = l .written })
-    (lineFaces (a .values .now) (countY (a .t5)) (countZ (a .t5)) (a .iso) (a .from .0) k)) e (l .inv .0)
+returns c = written-all _ (omega (arith, c .before .loop .inv .2, c .loop-test .left)) (c .before .loop .inv .0)
 
 pub write-cells-spec : {M : Type 1} → statement M
 write-cells-spec =

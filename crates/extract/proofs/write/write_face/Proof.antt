@@ -1,191 +1,197 @@
--- `extract::write::write_face` meets its contract.
--- Assumes nothing.
-use mathlib.Core.Path.{_≡_, refl, sym, ap, _∙_, subst}
-use Prim.Native.Nat.{ℕ, _+_, _*_, _<_, _≤_}
+-- A face's three edges lie in the table and have both their nodes (`edge-of`), and where its three vertices have room each has at its turn (`fits`): so the calls may
+-- be made. What they answer, one after the other, is the face written.
+use mathlib.Core.Path.{_≡_, sym, ap, _∙_, subst}
+use mathlib.Core.List.{List, [], _∷_, map}
+use Prim.Native.Nat.{ℕ, _+_, _*_, _^_, _<_, _≤_}
 use native.Mathlib.Omega.{arith}
+use lib.Ieee.{Float}
 use lib.ListN.{length, getD, set, length-set}
 use lib.Seq.{sets}
 use Rattle.cells.specs.Extraction.{edgePoint}
 use Rattle.cells.specs.CellWords.{Inner}
-use Rattle.extract.specs.SecondPass.{Places, place1, vertexIn}
-use Rattle.extract.proofs.Placing.{place-three, three-rooms, three-stores, three-same}
+use Rattle.extract.specs.SecondPass.{Places, placeAll, vertexIn}
+use Rattle.extract.proofs.Placing.{place-three, Fits, fits-first, fits-rest, three-stores, three-same}
 use borrow.Author.Needs.{needs}
 use Rattle.extract.proofs.write.write_face.Statement.{statement}
 use Rattle.extract.proofs.write.write_face.Tie as tie
+
+-- ---- the places: each seen from one further on
+
+abbrev entry : tie.After-cell-edge3 → tie.Start
+entry c = c .before .before .before .before .before .before .before
+
+abbrev found : tie.After-place → tie.After-cell-edge3
+found c = c .before .before
+
+abbrev one : tie.After-place2 → tie.After-place
+one c = c .before .before .before .before
+
+abbrev two : tie.After-place3 → tie.After-place2
+two c = c .before .before .before .before
+
+-- the three edges, seen from behind the three vertices, and from behind each of the three numbers
+abbrev edges : tie.After-place3 → tie.After-cell-edge3
+edges c = found (one (two c))
+
+abbrev edges-1 : tie.After-number → tie.After-cell-edge3
+edges-1 c = edges (c .before .before .before .before)
+
+abbrev edges-2 : tie.After-number2 → tie.After-cell-edge3
+edges-2 c = edges-1 (c .before .before)
+
+abbrev edges-3 : tie.After-number3 → tie.After-cell-edge3
+edges-3 c = edges-2 (c .before .before)
+
+-- ---- what is known there
+
+abbrev point : tie.Start → ℕ → List Float
+point s = edgePoint (s .args .values .now) (s .args .lattice) (s .args .iso)
+
+-- the edge of the lattice that is edge k of this cell; it has both its nodes, and a place in the table
+abbrev number : tie.Start → ℕ → ℕ
+number s k = s .args .first .0 + getD (s .args .offsets .now) k 0
+
+abbrev Held : tie.Start → ℕ → Type 0
+Held s e = Inner (s .args .values .now) (s .args .lattice) e × (e < length (s .args .table .now))
+
+edge-of : (s : tie.Start) (e k : ℕ) → k < 12 → e ≡ number s k → Held s e
+edge-of s e k h q = let t = s .pre .1 k h in subst (Held s) (sym q) (t .2, t .0)
+
+edge-a : (c : tie.After-cell-edge3) → Held (entry c) (c .before .before .cell-edge .result .0)
+edge-a c = let x = c .before .before .cell-edge in edge-of (entry c) (x .result .0) (getD (entry c .args .t8) 0 0) (entry c .pre .2 .a) (x .ensures)
+
+edge-b : (c : tie.After-cell-edge3) → Held (entry c) (c .before .cell-edge2 .result .0)
+edge-b c = let y = c .before .cell-edge2 in edge-of (entry c) (y .result .0) (getD (entry c .args .t8) 1 0) (entry c .pre .2 .b) (y .ensures)
+
+edge-c : (c : tie.After-cell-edge3) → Held (entry c) (c .cell-edge3 .result .0)
+edge-c c = let z = c .cell-edge3 in edge-of (entry c) (z .result .0) (getD (entry c .args .t8) 2 0) (entry c .pre .2 .c) (z .ensures)
+
+-- the three edges, as they were answered and as the contract has them
+abbrev answered : tie.After-cell-edge3 → List ℕ
+answered c = c .before .before .cell-edge .result .0 ∷ c .before .cell-edge2 .result .0 ∷ c .cell-edge3 .result .0 ∷ []
+
+abbrev corner-edges : tie.Start → List ℕ
+corner-edges s = let t = s .args .t8 in number s (getD t 0 0) ∷ number s (getD t 1 0) ∷ number s (getD t 2 0) ∷ []
+
+same-edges : (c : tie.After-cell-edge3) → answered c ≡ corner-edges (entry c)
+same-edges c = three-same (c .before .before .cell-edge .ensures) (c .before .cell-edge2 .ensures) (c .cell-edge3 .ensures)
+
+-- room for the vertices of all three; once the first is placed, of the other two; and then of the last
+fits : (c : tie.After-cell-edge3) → Fits (entry c .args .table .now) (point (entry c)) (entry c .args .vertices .now, entry c .args .had .vertices) (answered c)
+fits c =
+    let s = entry c in
+    subst (Fits (s .args .table .now) (point s) (s .args .vertices .now, s .args .had .vertices)) (sym (same-edges c)) (s .pre .3 .vertices)
+
+fits-2 : (c : tie.After-place) → Fits (entry (found c) .args .table .now) (point (entry (found c))) (c .place .last .0, c .place .result) (found c .before .cell-edge2 .result .0 ∷ found c .cell-edge3 .result .0 ∷ [])
+fits-2 c = let s = entry (found c) in fits-rest (s .args .table .now) (point s) (s .args .vertices .now, s .args .had .vertices) _ _ _ (fits (found c)) (c .place .ensures)
+
+fits-3 : (c : tie.After-place2) → Fits (entry (found (one c)) .args .table .now) (point (entry (found (one c)))) (c .place2 .last .0, c .place2 .result) (found (one c) .cell-edge3 .result .0 ∷ [])
+fits-3 c = let s = entry (found (one c)) in fits-rest (s .args .table .now) (point s) (one c .place .last .0, one c .place .result) _ _ _ (fits-2 (one c)) (c .place2 .ensures)
+
+-- room for the face, in a slice no longer than memory allows
+free : (s : tie.Start) → (3 * s .args .had .faces + 3 ≤ length (s .args .faces .now)) × (length (s .args .faces .now) < 2 ^ 61)
+free s = (omega (arith, s .pre .3 .faces), omega arith)
+
+-- ---- the needs
 
 array-read-cell-edge : tie.Need-array-read-cell-edge
 array-read-cell-edge c = search needs
 
 cell-edge-requires : tie.Need-cell-edge-requires
-cell-edge-requires c κs =
-    let s = c .before .before .before .before in
-    (s .pre .2 .a, s .pre .1 (getD (s .args .t8) 0 0) (s .pre .2 .a) .1)
+cell-edge-requires c κs = let s = c .before .before .before .before in (s .pre .2 .a, s .pre .1 _ (s .pre .2 .a) .1)
 
 array-read-cell-edge-2 : tie.Need-array-read-cell-edge-2
 array-read-cell-edge-2 c = search needs
 
 cell-edge-requires-2 : tie.Need-cell-edge-requires-2
-cell-edge-requires-2 c κs =
-    let s = c .before .before .before .before .before in
-    (s .pre .2 .b, s .pre .1 (getD (s .args .t8) 1 0) (s .pre .2 .b) .1)
+cell-edge-requires-2 c κs = let s = c .before .before .before .before .before in (s .pre .2 .b, s .pre .1 _ (s .pre .2 .b) .1)
 
 array-read-cell-edge-3 : tie.Need-array-read-cell-edge-3
 array-read-cell-edge-3 c = search needs
 
 cell-edge-requires-3 : tie.Need-cell-edge-requires-3
-cell-edge-requires-3 c κs =
-    let s = c .before .before .before .before .before .before in
-    (s .pre .2 .c, s .pre .1 (getD (s .args .t8) 2 0) (s .pre .2 .c) .1)
+cell-edge-requires-3 c κs = let s = c .before .before .before .before .before .before in (s .pre .2 .c, s .pre .1 _ (s .pre .2 .c) .1)
 
 place-requires : tie.Need-place-requires
 place-requires c κs =
-    let s = c .before .before .before .before .before .before .before .before in
-    let g : ℕ → ℕ = λ i. s .args .first .0 + getD (s .args .offsets .now) (getD (s .args .t8) i 0) 0 in
-    let point = edgePoint (s .args .values .now) (s .args .lattice) (s .args .iso) in
-    let e = s .pre .1 (getD (s .args .t8) 0 0) (s .pre .2 .a) in
-    let x = c .before .before .before .cell-edge in
-    let y = c .before .before .cell-edge2 in
-    let z = c .before .cell-edge3 in
-    let s0 : Places = (s .args .vertices .now, s .args .had .vertices) in
-    let r = three-rooms (s .args .table .now) point s0 (place1 (s .args .table .now) point s0 (x .result .0)) (place1 (s .args .table .now) point (place1 (s .args .table .now) point s0 (x .result .0)) (y .result .0)) (x .result .0) (y .result .0) (z .result .0) (g 0) (g 1) (g 2) (x .ensures) (y .ensures) (z .ensures) refl refl (s .pre .3 .vertices) in (
-      s .pre .0,
-      subst (Inner (s .args .values .now) (s .args .lattice)) (sym (x .ensures)) (e .2),
-      subst (λ (n : ℕ). n < length (s .args .table .now)) (sym (x .ensures)) (e .0),
-      r .0,
-    )
+    let d = c .before in
+    let s = entry d in
+    (s .pre .0, edge-a d .0, edge-a d .1, fits-first (s .args .table .now) (point s) (s .args .vertices .now, s .args .had .vertices) _ _ (fits d))
 
 place-requires-2 : tie.Need-place-requires-2
 place-requires-2 c κs =
-    let s = c .before .before .before .before .before .before .before .before .before .before .before .before in
-    let g : ℕ → ℕ = λ i. s .args .first .0 + getD (s .args .offsets .now) (getD (s .args .t8) i 0) 0 in
-    let point = edgePoint (s .args .values .now) (s .args .lattice) (s .args .iso) in
-    let e = s .pre .1 (getD (s .args .t8) 1 0) (s .pre .2 .b) in
-    let x = c .before .before .before .before .before .before .before .cell-edge in
-    let y = c .before .before .before .before .before .before .cell-edge2 in
-    let z = c .before .before .before .before .before .cell-edge3 in
-    let s0 : Places = (s .args .vertices .now, s .args .had .vertices) in
-    let m = c .before .before .before .place in
-    let r = three-rooms (s .args .table .now) point s0 (m .last .0, m .result) (place1 (s .args .table .now) point (m .last .0, m .result) (y .result .0)) (x .result .0) (y .result .0) (z .result .0) (g 0) (g 1) (g 2) (x .ensures) (y .ensures) (z .ensures) (m .ensures) refl (s .pre .3 .vertices) in (
-      s .pre .0,
-      subst (Inner (s .args .values .now) (s .args .lattice)) (sym (y .ensures)) (e .2),
-      subst (λ (n : ℕ). n < length (s .args .table .now)) (sym (y .ensures)) (e .0),
-      r .1,
-    )
+    let p = c .before .before .before in
+    let d = found p in
+    let s = entry d in
+    (s .pre .0, edge-b d .0, edge-b d .1, fits-first (s .args .table .now) (point s) (p .place .last .0, p .place .result) _ _ (fits-2 p))
 
 place-requires-3 : tie.Need-place-requires-3
 place-requires-3 c κs =
-    let s = c .before .before .before .before .before .before .before .before .before .before .before .before .before .before .before .before in
-    let g : ℕ → ℕ = λ i. s .args .first .0 + getD (s .args .offsets .now) (getD (s .args .t8) i 0) 0 in
-    let point = edgePoint (s .args .values .now) (s .args .lattice) (s .args .iso) in
-    let e = s .pre .1 (getD (s .args .t8) 2 0) (s .pre .2 .c) in
-    let x = c .before .before .before .before .before .before .before .before .before .before .before .cell-edge in
-    let y = c .before .before .before .before .before .before .before .before .before .before .cell-edge2 in
-    let z = c .before .before .before .before .before .before .before .before .before .cell-edge3 in
-    let s0 : Places = (s .args .vertices .now, s .args .had .vertices) in
-    let m = c .before .before .before .before .before .before .before .place in
-    let n = c .before .before .before .place2 in
-    let r = three-rooms (s .args .table .now) point s0 (m .last .0, m .result) (n .last .0, n .result) (x .result .0) (y .result .0) (z .result .0) (g 0) (g 1) (g 2) (x .ensures) (y .ensures) (z .ensures) (m .ensures) (n .ensures) (s .pre .3 .vertices) in (
-      s .pre .0,
-      subst (Inner (s .args .values .now) (s .args .lattice)) (sym (z .ensures)) (e .2),
-      subst (λ (n : ℕ). n < length (s .args .table .now)) (sym (z .ensures)) (e .0),
-      r .2,
-    )
+    let p = c .before .before .before in
+    let d = found (one p) in
+    let s = entry d in
+    (s .pre .0, edge-c d .0, edge-c d .1, fits-first (s .args .table .now) (point s) (p .place2 .last .0, p .place2 .result) _ _ (fits-3 p))
 
 vertex-of-requires : tie.Need-vertex-of-requires
-vertex-of-requires c κs =
-    let s = c .before .before .before .before .before .before .before .before .before .before .before .before .before .before .before .before .before .before .before in
-    subst (λ (n : ℕ). n < length (s .args .table .now)) (sym (c .before .before .before .before .before .before .before .before .before .before .before .before .before .before .cell-edge .ensures)) (s .pre .1 (getD (s .args .t8) 0 0) (s .pre .2 .a) .0)
+vertex-of-requires c κs = edge-a (edges (c .before .before)) .1
 
 number-requires : tie.Need-number-requires
 number-requires c κs = search needs
 
 mul-faces : tie.Need-mul-faces
-mul-faces c =
-    let s = c .before .before .before .before .before .before .before .before .before .before .before .before .before .before .before .before .before .before .before .before .before in
-    let h : 3 * s .args .had .faces + 3 ≤ length (s .args .faces .now) = omega (arith, s .pre .3 .faces) in
-    omega (arith, h)
+mul-faces c = omega (arith, free (entry (edges-1 c)))
 
 mul-faces-2 : tie.Need-mul-faces-2
-mul-faces-2 c =
-    let s = c .before .before .before .before .before .before .before .before .before .before .before .before .before .before .before .before .before .before .before .before .before in
-    let h : 3 * s .args .had .faces + 3 ≤ length (s .args .faces .now) = omega (arith, s .pre .3 .faces) in
-    omega (arith, h)
+mul-faces-2 c = omega (arith, free (entry (edges-1 c)))
 
 slice-write-faces : tie.Need-slice-write-faces
-slice-write-faces c =
-    let s = c .before .before .before .before .before .before .before .before .before .before .before .before .before .before .before .before .before .before .before .before .before in
-    let h : 3 * s .args .had .faces + 3 ≤ length (s .args .faces .now) = omega (arith, s .pre .3 .faces) in
-    omega (arith, h)
+slice-write-faces c = omega (arith, free (entry (edges-1 c)))
 
 vertex-of-requires-2 : tie.Need-vertex-of-requires-2
-vertex-of-requires-2 c κs =
-    let s = c .before .before .before .before .before .before .before .before .before .before .before .before .before .before .before .before .before .before .before .before .before in
-    subst (λ (n : ℕ). n < length (s .args .table .now)) (sym (c .before .before .before .before .before .before .before .before .before .before .before .before .before .before .before .cell-edge2 .ensures)) (s .pre .1 (getD (s .args .t8) 1 0) (s .pre .2 .b) .0)
+vertex-of-requires-2 c κs = edge-b (edges-1 c) .1
 
 number-requires-2 : tie.Need-number-requires-2
 number-requires-2 c κs = search needs
 
 mul-faces-3 : tie.Need-mul-faces-3
-mul-faces-3 c =
-    let s = c .before .before .before .before .before .before .before .before .before .before .before .before .before .before .before .before .before .before .before .before .before .before .before in
-    let h : 3 * s .args .had .faces + 3 ≤ length (s .args .faces .now) = omega (arith, s .pre .3 .faces) in
-    omega (arith, h)
+mul-faces-3 c = omega (arith, free (entry (edges-2 c)))
 
 add-faces : tie.Need-add-faces
-add-faces c =
-    let s = c .before .before .before .before .before .before .before .before .before .before .before .before .before .before .before .before .before .before .before .before .before .before .before in
-    let h : 3 * s .args .had .faces + 3 ≤ length (s .args .faces .now) = omega (arith, s .pre .3 .faces) in
-    omega (arith, h)
+add-faces c = omega (arith, free (entry (edges-2 c)))
 
 mul-faces-4 : tie.Need-mul-faces-4
-mul-faces-4 c =
-    let s = c .before .before .before .before .before .before .before .before .before .before .before .before .before .before .before .before .before .before .before .before .before .before .before in
-    let h : 3 * s .args .had .faces + 3 ≤ length (s .args .faces .now) = omega (arith, s .pre .3 .faces) in
-    omega (arith, h)
+mul-faces-4 c = omega (arith, free (entry (edges-2 c)))
 
+-- a store keeps the slice's length
 slice-write-faces-2 : tie.Need-slice-write-faces-2
 slice-write-faces-2 c =
-    let s = c .before .before .before .before .before .before .before .before .before .before .before .before .before .before .before .before .before .before .before .before .before .before .before in
-    let h : 3 * s .args .had .faces + 3 ≤ length (s .args .faces .now) = omega (arith, s .pre .3 .faces) in
-    omega (arith, h, length-set (s .args .faces .now) (3 * s .args .had .faces) (c .before .before .number .result))
+    let a = entry (edges-2 c) .args in omega (arith, free (entry (edges-2 c)), length-set (a .faces .now) (3 * a .had .faces) (c .before .before .number .result))
 
 vertex-of-requires-3 : tie.Need-vertex-of-requires-3
-vertex-of-requires-3 c κs =
-    let s = c .before .before .before .before .before .before .before .before .before .before .before .before .before .before .before .before .before .before .before .before .before .before .before in
-    subst (λ (n : ℕ). n < length (s .args .table .now)) (sym (c .before .before .before .before .before .before .before .before .before .before .before .before .before .before .before .before .cell-edge3 .ensures)) (s .pre .1 (getD (s .args .t8) 2 0) (s .pre .2 .c) .0)
+vertex-of-requires-3 c κs = edge-c (edges-2 c) .1
 
 number-requires-3 : tie.Need-number-requires-3
 number-requires-3 c κs = search needs
 
 mul-faces-5 : tie.Need-mul-faces-5
-mul-faces-5 c =
-    let s = c .before .before .before .before .before .before .before .before .before .before .before .before .before .before .before .before .before .before .before .before .before .before .before .before .before in
-    let h : 3 * s .args .had .faces + 3 ≤ length (s .args .faces .now) = omega (arith, s .pre .3 .faces) in
-    omega (arith, h)
+mul-faces-5 c = omega (arith, free (entry (edges-3 c)))
 
 add-faces-2 : tie.Need-add-faces-2
-add-faces-2 c =
-    let s = c .before .before .before .before .before .before .before .before .before .before .before .before .before .before .before .before .before .before .before .before .before .before .before .before .before in
-    let h : 3 * s .args .had .faces + 3 ≤ length (s .args .faces .now) = omega (arith, s .pre .3 .faces) in
-    omega (arith, h)
+add-faces-2 c = omega (arith, free (entry (edges-3 c)))
 
 mul-faces-6 : tie.Need-mul-faces-6
-mul-faces-6 c =
-    let s = c .before .before .before .before .before .before .before .before .before .before .before .before .before .before .before .before .before .before .before .before .before .before .before .before .before in
-    let h : 3 * s .args .had .faces + 3 ≤ length (s .args .faces .now) = omega (arith, s .pre .3 .faces) in
-    omega (arith, h)
+mul-faces-6 c = omega (arith, free (entry (edges-3 c)))
 
 slice-write-faces-3 : tie.Need-slice-write-faces-3
 slice-write-faces-3 c =
-    let s = c .before .before .before .before .before .before .before .before .before .before .before .before .before .before .before .before .before .before .before .before .before .before .before .before .before in
-    let h : 3 * s .args .had .faces + 3 ≤ length (s .args .faces .now) = omega (arith, s .pre .3 .faces) in
-    omega (arith, h, length-set (s .args .faces .now) (3 * s .args .had .faces) (c .before .before .before .before .number .result), length-set (set (s .args .faces .now) (3 * s .args .had .faces) (c .before .before .before .before .number .result)) (3 * s .args .had .faces + 1) (c .before .before .number2 .result))
+    let a = entry (edges-3 c) .args in
+    let n = c .before .before .before .before .number .result in
+    let fs = a .faces .now in
+    let i = 3 * a .had .faces in
+    omega (arith, free (entry (edges-3 c)), length-set fs i n, length-set (set fs i n) (i + 1) (c .before .before .number2 .result))
 
 add-t37 : tie.Need-add-t37
-add-t37 c =
-    let s = c .before .before .before .before .before .before .before .before .before .before .before .before .before .before .before .before .before .before .before .before .before .before .before .before .before in
-    let h : 3 * s .args .had .faces + 3 ≤ length (s .args .faces .now) = omega (arith, s .pre .3 .faces) in
-    omega (arith, h)
+add-t37 c = omega (arith, free (entry (edges-3 c)))
 
 same-length : tie.Need-same-length
 same-length c = search needs
@@ -195,25 +201,21 @@ same-length-2 c = search needs
 
 returns : tie.Need-returns
 returns c =
-    let s = c .before .before .before .before .before .before .before .before .before .before .before .before .before .before .before .before .before .before .before .before .before .before .before .before .before in
+    let o = c .before .before .before .before .before .before .before .before in
+    let n = two o in
+    let m = one n in
+    let s = entry (found m) in
     let t = s .args .table .now in
-    let g : ℕ → ℕ = λ i. s .args .first .0 + getD (s .args .offsets .now) (getD (s .args .t8) i 0) 0 in
-    let point = edgePoint (s .args .values .now) (s .args .lattice) (s .args .iso) in
-    let x = c .before .before .before .before .before .before .before .before .before .before .before .before .before .before .before .before .before .before .before .before .cell-edge in
-    let y = c .before .before .before .before .before .before .before .before .before .before .before .before .before .before .before .before .before .before .before .cell-edge2 in
-    let z = c .before .before .before .before .before .before .before .before .before .before .before .before .before .before .before .before .before .before .cell-edge3 in
-    let m = c .before .before .before .before .before .before .before .before .before .before .before .before .before .before .before .before .place in
-    let n = c .before .before .before .before .before .before .before .before .before .before .before .before .place2 in
-    let o = c .before .before .before .before .before .before .before .before .place3 in
-    let vertex : (v e e′ : ℕ) → v ≡ vertexIn t e → e ≡ e′ → v ≡ vertexIn t e′ = λ v e e′ p q. p ∙ ap (vertexIn t) q in
+    let i = 3 * s .args .had .faces in
+    let first = c .before .before .before .before in
+    let second = c .before .before in
+    let s0 : Places = (s .args .vertices .now, s .args .had .vertices) in
     record {
-      placed = place-three t point (s .args .vertices .now, s .args .had .vertices) (m .last .0, m .result) (n .last .0, n .result) (o .last .0, o .result)
-          (x .result .0) (y .result .0) (z .result .0) (g 0) (g 1) (g 2) (m .ensures) (n .ensures) (o .ensures) (x .ensures) (y .ensures) (z .ensures);
-      written = three-stores (s .args .faces .now) (3 * s .args .had .faces) (c .before .before .before .before .number .result) (c .before .before .number2 .result) (c .number3 .result)
-          ∙ ap (sets (s .args .faces .now) (3 * s .args .had .faces))
-          (three-same (vertex (c .before .before .before .before .number .result) (x .result .0) (g 0) (c .before .before .before .before .number .ensures ∙ c .before .before .before .before .before .vertex-of .ensures) (x .ensures))
-          (vertex (c .before .before .number2 .result) (y .result .0) (g 1) (c .before .before .number2 .ensures ∙ c .before .before .before .vertex-of2 .ensures) (y .ensures))
-          (vertex (c .number3 .result) (z .result .0) (g 2) (c .number3 .ensures ∙ c .before .vertex-of3 .ensures) (z .ensures)));
+      placed = place-three t (point s) s0 _ _ _ _ _ _ (m .place .ensures) (n .place2 .ensures) (o .place3 .ensures) ∙ ap (placeAll t (point s) s0) (same-edges (found m));
+      written = three-stores (s .args .faces .now) i (first .number .result) (second .number2 .result) (c .number3 .result)
+          ∙ ap (sets (s .args .faces .now) i)
+          (three-same (first .number .ensures ∙ first .before .vertex-of .ensures) (second .number2 .ensures ∙ second .before .vertex-of2 .ensures) (c .number3 .ensures ∙ c .before .vertex-of3 .ensures)
+          ∙ ap (map (vertexIn t)) (same-edges (found m)));
       counted = omega arith;
     }
 

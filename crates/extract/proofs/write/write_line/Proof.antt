@@ -1,10 +1,8 @@
--- `extract::write::write_line` meets its contract: a plain line has no face.
--- Assumes nothing.
-use mathlib.Core.Path.{sym, _∙_, subst}
+-- A plain line has no face, so nothing is written; every other is its cells'.
+use mathlib.Core.Path.{sym, _∙_}
 use native.Mathlib.Omega.{arith}
-use Rattle.cells.specs.Extraction.{countY, countZ, edgePoint}
-use Rattle.extract.specs.SecondPass.{Written}
-use Rattle.extract.proofs.Placing.{written-none}
+use Rattle.cells.specs.Extraction.{countY, countZ}
+use Rattle.extract.proofs.Placing.{written-none, written-as}
 use Rattle.cells.specs.Plain.{plain-line}
 use borrow.Author.Needs.{needs}
 use Rattle.extract.proofs.write.write_line.Statement.{statement}
@@ -17,14 +15,12 @@ element-copy-out-is-plain-2 : tie.Need-element-copy-out-is-plain-2
 element-copy-out-is-plain-2 c = search needs
 
 is-plain-requires : tie.Need-is-plain-requires
-is-plain-requires c κs = (omega (arith, c .before .before .before .before .before .before .pre .0 .nodes), c .before .before .before .before .before .before .pre .0 .most)
+is-plain-requires c κs = let s = c .before .before .before .before .before .before in (omega (arith, s .pre .0 .nodes), s .pre .0 .most)
 
 returns : tie.Need-returns
 returns c =
     let a = c .before .before .before .before .before .before .before .before .args in
-    let point = edgePoint (a .values .now) (a .t5) (a .iso) in
-    subst (Written (a .table .now) point (a .vertices .now) (a .vertices .now) (a .faces .now) (a .faces .now) (a .had) (a .had)) (sym (plain-line (a .values .now) (countY (a .t5)) (countZ (a .t5)) (a .iso) (a .from .0) (sym (c .before .is-plain .ensures) ∙ c .if1 .taken)))
-    (written-none (a .table .now) point (a .vertices .now) (a .faces .now) (a .had))
+    written-as (sym (plain-line (a .values .now) (countY (a .t5)) (countZ (a .t5)) (a .iso) (a .from .0) (sym (c .before .is-plain .ensures) ∙ c .if1 .taken))) written-none
 
 write-cells-requires : tie.Need-write-cells-requires
 write-cells-requires c κs = search needs

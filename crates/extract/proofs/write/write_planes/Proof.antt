@@ -1,14 +1,16 @@
--- `extract::write::write_planes` meets its contract: the first i planes are written.
--- Assumes nothing.
-use mathlib.Core.Path.{_≡_, sym, subst}
+-- After i turns the first i planes are written. The next plane lies inside (`inside`), and where there is room for all planes there is for it.
+use mathlib.Core.Path.{sym, ap}
+use mathlib.Core.List.{List}
 use Prim.Native.Nat.{ℕ, _+_, _-_, _*_, _<_, _≤_}
 use native.Mathlib.Nat.{mul-le-mul-right, add-mul, mul-assoc, le-mul-of-pos-right}
 use native.Mathlib.Omega.{arith}
+use lib.ListN.{length}
+use Rattle.closed.specs.Faces.{Face}
 use Rattle.cells.specs.Extraction.{countX, countY, countZ, edgePoint}
 use Rattle.cells.specs.CellWords.{planeFaces, blockFaces}
 use Rattle.numbering.specs.FirstPass.{none}
-use Rattle.extract.specs.SecondPass.{Written, Room}
-use Rattle.extract.proofs.Placing.{written-start, written-more-cells, room-cell, vertices-kept, faces-kept}
+use Rattle.extract.specs.SecondPass.{Written}
+use Rattle.extract.proofs.Placing.{written-as, room-as, written-start, written-more-cells, written-all, room-cell, vertices-kept, faces-kept}
 use borrow.Author.Needs.{needs}
 use Rattle.extract.proofs.write.write_planes.Statement.{statement}
 use Rattle.extract.proofs.write.write_planes.Tie as tie
@@ -22,6 +24,42 @@ Inv-loop vertices₀ faces₀ values table iso offsets triangles lattice nx plan
 abbrev μ-loop : tie.MeasureT-loop
 μ-loop vertices₀ faces₀ values table iso offsets triangles lattice nx plane placed₀ written₀ i₀ vertices faces placed written i = nx - i
 
+-- ---- the places, and what is known there
+
+abbrev entry : tie.At-loop Inv-loop μ-loop → tie.Start Inv-loop μ-loop
+entry c = c .before .before .before .before .before .before .before .before
+
+abbrev turn : tie.After-of Inv-loop μ-loop → tie.In-loop Inv-loop μ-loop
+turn c = c .before .before .before
+
+-- the next plane's node was named, seen from the turn's end
+abbrev named : tie.After-slice-known4 Inv-loop μ-loop → tie.After-of Inv-loop μ-loop
+named c = c .before .before .before .before .before
+
+-- how many nodes a plane has, and the faces of the plane from node n on
+abbrev wide : tie.Start Inv-loop μ-loop → ℕ
+wide s = countY (s .args .t5) * countZ (s .args .t5)
+
+abbrev plane : tie.Start Inv-loop μ-loop → ℕ → List Face
+plane s n = planeFaces (s .args .values .now) (countY (s .args .t5)) (countZ (s .args .t5)) (s .args .iso) n (countY (s .args .t5) - 1)
+
+-- the nodes of the next plane and of the one after it are nodes
+inside : (c : tie.In-loop Inv-loop μ-loop) → c .before .loop .i * wide (entry (c .before)) + wide (entry (c .before)) + wide (entry (c .before)) ≤ length (entry (c .before) .args .values .now)
+inside c =
+    let i = c .before .loop .i in
+    let s = entry (c .before) in
+    let h : i + 2 ≤ countX (s .args .t5) = omega (arith, c .loop-test .taken) in
+    omega (arith, mul-le-mul-right (wide s) h, add-mul i 2 (wide s), mul-assoc (countX (s .args .t5)) (countY (s .args .t5)) (countZ (s .args .t5)), s .pre .1)
+
+-- there are no more planes than nodes
+few : (c : tie.At-loop Inv-loop μ-loop) → c .loop .i + 1 ≤ 16777216
+few c =
+    let s = entry c in
+    let p : 0 < wide s = omega (arith, mul-le-mul-right (countZ (s .args .t5)) (s .pre .0 .counts .two-y), s .pre .0 .counts .two-z) in
+    omega (arith, c .loop .inv .1, le-mul-of-pos-right (countX (s .args .t5)) p, mul-assoc (countX (s .args .t5)) (countY (s .args .t5)) (countZ (s .args .t5)), s .pre .1, s .pre .0 .most)
+
+-- ---- the needs
+
 element-copy-out-nx : tie.Need-element-copy-out-nx Inv-loop μ-loop
 element-copy-out-nx c = search needs
 
@@ -32,80 +70,57 @@ element-copy-out-plane-2 : tie.Need-element-copy-out-plane-2 Inv-loop μ-loop
 element-copy-out-plane-2 c = search needs
 
 mul-plane : tie.Need-mul-plane Inv-loop μ-loop
-mul-plane c = omega (arith, c .before .before .before .before .before .before .before .pre .0 .nodes, c .before .before .before .before .before .before .before .pre .0 .most)
+mul-plane c = let s = c .before .before .before .before .before .before .before in omega (arith, s .pre .0 .nodes, s .pre .0 .most)
 
 loop-holds : tie.Need-loop-holds Inv-loop μ-loop
-loop-holds c =
-    let s = c .before .before .before .before .before .before .before in
-    (written-start (s .args .table .now) (edgePoint (s .args .values .now) (s .args .t5) (s .args .iso)) (s .args .vertices .now) (s .args .faces .now) none (λ i. planeFaces (s .args .values .now) (countY (s .args .t5)) (countZ (s .args .t5)) (s .args .iso) (i * (countY (s .args .t5) * countZ (s .args .t5))) (countY (s .args .t5) - 1)), omega (arith, s .pre .0 .counts .two-x))
+loop-holds c = (written-start _, omega (arith, c .before .before .before .before .before .before .before .pre .0 .counts .two-x))
 
 add-loop : tie.Need-add-loop Inv-loop μ-loop
-add-loop c =
-    let s = c .before .before .before .before .before .before .before .before in
-    let p : 0 < (countY (s .args .t5) * countZ (s .args .t5)) = omega (arith, mul-le-mul-right (countZ (s .args .t5)) (s .pre .0 .counts .two-y), s .pre .0 .counts .two-z) in
-    omega (arith, c .loop .inv .1, le-mul-of-pos-right (countX (s .args .t5)) p, mul-assoc (countX (s .args .t5)) (countY (s .args .t5)) (countZ (s .args .t5)), s .pre .1, s .pre .0 .most)
+add-loop c = omega (arith, few c)
 
 mul-of : tie.Need-mul-of Inv-loop μ-loop
-mul-of c =
-    let s = c .before .before .before .before .before .before .before .before .before .before .before in
-    let l = c .before .before .before .loop in
-    let h : l .i + 2 ≤ countX (s .args .t5) = omega (arith, c .before .before .loop-test .taken) in
-    omega (arith, mul-le-mul-right (countY (s .args .t5) * countZ (s .args .t5)) h, add-mul (l .i) 2 (countY (s .args .t5) * countZ (s .args .t5)), mul-assoc (countX (s .args .t5)) (countY (s .args .t5)) (countZ (s .args .t5)), s .pre .1, s .pre .0 .most)
+mul-of c = let t = c .before .before in omega (arith, inside t, entry (t .before) .pre .0 .most)
 
 of-requires : tie.Need-of-requires Inv-loop μ-loop
 of-requires c κs = search needs
 
 write-plane-requires : tie.Need-write-plane-requires Inv-loop μ-loop
 write-plane-requires c κs =
-    let s = c .before .before .before .before .before .before .before .before .before .before .before .before in
-    let l = c .before .before .before .before .loop in
-    let a = s .args in
-    let P = countY (a .t5) * countZ (a .t5) in
-    let h : l .i + 2 ≤ countX (a .t5) = omega (arith, c .before .before .before .loop-test .taken) in
-    let less : l .i < countX (a .t5) - 1 = omega (arith, c .before .before .before .loop-test .taken) in (
+    let t = turn c in
+    let l = t .before in
+    let s = entry l in
+    let less : l .loop .i < countX (s .args .t5) - 1 = omega (arith, t .loop-test .taken) in (
       record {
         counts = s .pre .0 .counts;
-        nodes = omega (arith, c .of .ensures, mul-le-mul-right P h, add-mul (l .i) 2 P, mul-assoc (countX (a .t5)) (countY (a .t5)) (countZ (a .t5)), s .pre .1);
+        nodes = omega (arith, c .of .ensures, inside t);
         edges = s .pre .0 .edges;
         most = s .pre .0 .most;
       },
-      subst (λ (n : ℕ). Room (a .table .now) (edgePoint (a .values .now) (a .t5) (a .iso)) (l .vertices) (l .faces) (record { vertices = l .placed; faces = l .written }) (planeFaces (a .values .now) (countY (a .t5)) (countZ (a .t5)) (a .iso) n (countY (a .t5) - 1))) (sym (c .of .ensures))
-          (room-cell (a .table .now) (edgePoint (a .values .now) (a .t5) (a .iso)) (countX (a .t5) - 1) (l .i) (λ i. planeFaces (a .values .now) (countY (a .t5)) (countZ (a .t5)) (a .iso) (i * P) (countY (a .t5) - 1)) less (s .pre .2) (l .inv .0)),
+      room-as (ap (plane s) (sym (c .of .ensures))) (room-cell _ _ _ less (s .pre .2) (l .loop .inv .0)),
       s .pre .3,
       s .pre .4,
     )
 
 add-i : tie.Need-add-i Inv-loop μ-loop
-add-i c =
-    let s = c .before .before .before .before .before .before .before .before .before .before .before .before .before .before .before .before .before in
-    let p : 0 < (countY (s .args .t5) * countZ (s .args .t5)) = omega (arith, mul-le-mul-right (countZ (s .args .t5)) (s .pre .0 .counts .two-y), s .pre .0 .counts .two-z) in
-    omega (arith, c .before .before .before .before .before .before .before .before .before .loop .inv .1, le-mul-of-pos-right (countX (s .args .t5)) p, mul-assoc (countX (s .args .t5)) (countY (s .args .t5)) (countZ (s .args .t5)), s .pre .1, s .pre .0 .most)
+add-i c = omega (arith, few (turn (named c) .before))
 
 loop-less : tie.Need-loop-less Inv-loop μ-loop
-loop-less c = omega (arith, c .before .before .before .before .before .before .before .before .loop-test .taken)
+loop-less c = omega (arith, turn (named c) .loop-test .taken)
 
 loop-again : tie.Need-loop-again Inv-loop μ-loop
 loop-again c =
-    let a = c .before .before .before .before .before .before .before .before .before .before .before .before .before .before .before .before .before .args in
-    let l = c .before .before .before .before .before .before .before .before .before .loop in
-    let o = c .before .before .before .before .write-plane in
-    let plane = subst (λ (n : ℕ). Written (a .table .now) (edgePoint (a .values .now) (a .t5) (a .iso)) (l .vertices) (o .last .0) (l .faces) (o .last .1 .0) (record { vertices = l .placed; faces = l .written }) (o .result) (planeFaces (a .values .now) (countY (a .t5)) (countZ (a .t5)) (a .iso) n (countY (a .t5) - 1))) (c .before .before .before .before .before .of .ensures) (o .ensures) in
-    (written-more-cells (a .table .now) (edgePoint (a .values .now) (a .t5) (a .iso)) (l .i) (λ i. planeFaces (a .values .now) (countY (a .t5)) (countZ (a .t5)) (a .iso) (i * (countY (a .t5) * countZ (a .t5))) (countY (a .t5) - 1)) (l .inv .0) plane, omega (arith, c .before .before .before .before .before .before .before .before .loop-test .taken))
+    let t = turn (named c) in
+    let next = written-as (ap (plane (entry (t .before))) (named c .of .ensures)) (c .before .before .before .before .write-plane .ensures) in
+    (written-more-cells _ _ (t .before .loop .inv .0) next, omega (arith, t .loop-test .taken))
 
 same-length : tie.Need-same-length Inv-loop μ-loop
-same-length c = let s = c .before .before .before .before .before .before .before .before .before in vertices-kept (s .args .table .now) (edgePoint (s .args .values .now) (s .args .t5) (s .args .iso)) (c .before .loop .inv .0)
+same-length c = vertices-kept (c .before .loop .inv .0)
 
 same-length-2 : tie.Need-same-length-2 Inv-loop μ-loop
-same-length-2 c = let s = c .before .before .before .before .before .before .before .before .before in faces-kept (s .args .table .now) (edgePoint (s .args .values .now) (s .args .t5) (s .args .iso)) (c .before .loop .inv .0)
+same-length-2 c = faces-kept (c .before .loop .inv .0)
 
 returns : tie.Need-returns Inv-loop μ-loop
-returns c =
-    let s = c .before .before .before .before .before .before .before .before .before in
-    let l = c .before .loop in
-    let a = s .args in
-    let e : l .i ≡ countX (a .t5) - 1 = omega (arith, l .inv .1, c .loop-test .left) in
-    subst (λ (k : ℕ). Written (a .table .now) (edgePoint (a .values .now) (a .t5) (a .iso)) (a .vertices .now) (l .vertices) (a .faces .now) (l .faces) none (record { vertices = l .placed; faces = l .written })
-    (blockFaces (a .values .now) (countY (a .t5)) (countZ (a .t5)) (a .iso) k)) e (l .inv .0)
+returns c = written-all _ (omega (arith, c .before .loop .inv .1, c .loop-test .left)) (c .before .loop .inv .0)
 
 pub write-planes-spec : {M : Type 1} → statement M
 write-planes-spec =

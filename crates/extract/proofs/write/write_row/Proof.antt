@@ -1,41 +1,15 @@
--- `extract::write::write_row` meets its contract: the first k faces are written.
--- Assumes nothing.
-use mathlib.Core.Path.{_≡_, sym, ap, _∙_, subst}
-use mathlib.Core.List.{List, [], _∷_, _++_, map}
-use Prim.Native.Nat.{ℕ, _+_, _-_, _<_, _≤_}
+-- After k turns the first k faces of the row are written. Where there is room for all of them there is for the next, and once it is written they are one more.
+use Prim.Native.Nat.{_-_, _<_, _≤_}
 use native.Mathlib.Omega.{arith}
-use lib.Ieee.{Float}
-use lib.ListN.{length, getD, drop}
-use Rattle.closed.specs.Faces.{Face, face, mapFace, faceOf}
+use lib.ListN.{length}
 use Rattle.closed.specs.Rows.{emitted}
 use Rattle.closed.specs.Bounds.{emitted-le}
 use Rattle.cells.specs.Extraction.{edgePoint}
-use Rattle.cells.specs.CellWords.{rowFaces}
-use Rattle.extract.specs.SecondPass.{Written, Room}
-use Rattle.numbering.specs.declared.Totals.{Totals}
-use Rattle.extract.proofs.Placing.{written-none, written-append, room-next, vertices-kept, faces-kept}
-use Rattle.cells.specs.Rows.{firstFaces, one-more, all-faces, rest-faces, cube-face}
+use Rattle.cells.specs.Rows.{firstFaces, all-faces, cube-face}
+use Rattle.extract.specs.SecondPass.{Written}
+use Rattle.extract.proofs.Placing.{written-none, written-as, room-face, written-more-faces, vertices-kept, faces-kept}
 use Rattle.extract.proofs.write.write_row.Statement.{statement}
 use Rattle.extract.proofs.write.write_row.Tie as tie
-
--- the next face of a row, where there is room for all of them
-room-face : (table : List ℕ) (point : ℕ → List Float) {vs vt : List Float} {os ot : List ℕ} {a b : Totals} (offsets : List ℕ) (first case k : ℕ) (f : List ℕ)
-    → k < length (emitted case) → faceOf f ≡ getD (emitted case) k (face 0 0 0) → Room table point vs os a (rowFaces offsets first case)
-    → Written table point vs vt os ot a b (firstFaces offsets first case k) → Room table point vt ot b (mapFace (λ e. first + getD offsets e 0) (faceOf f) ∷ [])
-room-face table point {vs} {vt} {os} {ot} {a} {b} offsets first case k f h e r w =
-    let g : Face → Face = mapFace (λ e. first + getD offsets e 0) in
-    let rest : List Face = map g (drop (k + 1) (emitted case)) in
-    subst (λ (x : Face). Room table point vt ot b (g x ∷ [])) (sym e)
-    (room-next table point (firstFaces offsets first case k) (g (getD (emitted case) k (face 0 0 0)) ∷ []) rest
-    (subst (Room table point vs os a) (rest-faces offsets first case (k + 1) ∙ ap (λ (l : List Face). l ++ rest) (one-more offsets first case k h)) r) w)
-
-face-more : (table : List ℕ) (point : ℕ → List Float) {vs vt vu : List Float} {os ot ou : List ℕ} {a b c : Totals} (offsets : List ℕ) (first case k : ℕ) (f : List ℕ)
-    → k < length (emitted case) → faceOf f ≡ getD (emitted case) k (face 0 0 0) → Written table point vs vt os ot a b (firstFaces offsets first case k)
-    → Written table point vt vu ot ou b c (mapFace (λ e. first + getD offsets e 0) (faceOf f) ∷ []) → Written table point vs vu os ou a c (firstFaces offsets first case (k + 1))
-face-more table point {vs} {vt} {vu} {os} {ot} {ou} {a} {b} {c} offsets first case k f h e x y =
-    let g : Face → Face = mapFace (λ e. first + getD offsets e 0) in
-    subst (Written table point vs vu os ou a c) (sym (one-more offsets first case k h))
-    (written-append table point x (subst (λ (z : Face). Written table point vt vu ot ou b c (g z ∷ [])) e y))
 
 abbrev Inv-loop : tie.InvT-loop
 Inv-loop vertices₀ faces₀ values table lattice iso first case offsets triangles most placed₀ written₀ k₀ vertices faces placed written k =
@@ -46,56 +20,66 @@ Inv-loop vertices₀ faces₀ values table lattice iso first case offsets triang
 abbrev μ-loop : tie.MeasureT-loop
 μ-loop vertices₀ faces₀ values table lattice iso first case offsets triangles most placed₀ written₀ k₀ vertices faces placed written k = most - k
 
+-- ---- the places, and what is known there
+
+abbrev entry : tie.At-loop Inv-loop μ-loop → tie.Start Inv-loop μ-loop
+entry c = c .before .before .before .before .before .before
+
+abbrev turn : tie.After-row-face Inv-loop μ-loop → tie.In-loop Inv-loop μ-loop
+turn c = c .before
+
+-- the next face was read, seen from the turn's end
+abbrev read : tie.After-slice-known4 Inv-loop μ-loop → tie.After-row-face Inv-loop μ-loop
+read c = c .before .before .before .before .before .before .before
+
+-- the next face is one of the row's
+one-of : (c : tie.In-loop Inv-loop μ-loop) → c .before .loop .k < length (emitted (entry (c .before) .args .case))
+one-of c = omega (arith, c .loop-test .taken, c .before .before .row-faces .ensures)
+
+-- ---- the needs
+
 row-faces-requires : tie.Need-row-faces-requires Inv-loop μ-loop
-row-faces-requires c κs = (c .before .before .before .before .pre .4, c .before .before .before .before .pre .2)
+row-faces-requires c κs = let s = c .before .before .before .before in (s .pre .4, s .pre .2)
 
 loop-holds : tie.Need-loop-holds Inv-loop μ-loop
-loop-holds c = (written-none (c .before .before .before .before .before .args .table .now) (edgePoint (c .before .before .before .before .before .args .values .now) (c .before .before .before .before .before .args .lattice) (c .before .before .before .before .before .args .iso)) (c .before .before .before .before .before .args .vertices .now) (c .before .before .before .before .before .args .faces .now) (c .before .before .before .before .before .args .had), omega arith)
+loop-holds c = (written-none, omega arith)
 
 row-face-requires : tie.Need-row-face-requires Inv-loop μ-loop
-row-face-requires c κs = (c .before .before .before .before .before .before .before .pre .4, c .before .before .before .before .before .before .before .pre .2, omega (arith, c .loop-test .taken, c .before .before .row-faces .ensures))
+row-face-requires c κs = (entry (c .before) .pre .4, entry (c .before) .pre .2, one-of c)
 
 write-face-requires : tie.Need-write-face-requires Inv-loop μ-loop
 write-face-requires c κs =
-    let s = c .before .before .before .before .before .before .before .before .before .before in
-    let l = c .before .before .before .before .loop in
-    let r = c .before .before .row-face in
-    let h : l .k < length (emitted (s .args .case)) = omega (arith, c .before .before .before .loop-test .taken, c .before .before .before .before .before .row-faces .ensures) in (
+    let r = c .before .before in
+    let l = turn r .before in
+    let s = entry l in (
       s .pre .0,
       s .pre .1,
-      cube-face (s .args .case) (l .k) (r .result) (s .pre .2) h (r .ensures),
-      room-face (s .args .table .now) (edgePoint (s .args .values .now) (s .args .lattice) (s .args .iso)) (s .args .offsets .now) (s .args .first .0) (s .args .case) (l .k) (r .result) h (r .ensures) (s .pre .3) (l .inv .0),
+      cube-face (s .args .case) (l .loop .k) (r .row-face .result) (s .pre .2) (one-of (turn r)) (r .row-face .ensures),
+      room-face _ _ _ _ _ (one-of (turn r)) (r .row-face .ensures) (s .pre .3) (l .loop .inv .0),
     )
 
 add-k : tie.Need-add-k Inv-loop μ-loop
-add-k c = omega (arith, c .before .before .before .before .before .before .before .before .loop-test .taken, c .before .before .before .before .before .before .before .before .before .before .row-faces .ensures, emitted-le (c .before .before .before .before .before .before .before .before .before .before .before .before .before .before .before .args .case) (c .before .before .before .before .before .before .before .before .before .before .before .before .before .before .before .pre .2))
+add-k c = let s = entry (turn (read c) .before) in omega (arith, one-of (turn (read c)), emitted-le (s .args .case) (s .pre .2))
 
 loop-less : tie.Need-loop-less Inv-loop μ-loop
-loop-less c = omega (arith, c .before .before .before .before .before .before .before .before .loop-test .taken)
+loop-less c = omega (arith, turn (read c) .loop-test .taken)
 
 loop-again : tie.Need-loop-again Inv-loop μ-loop
 loop-again c =
-    let s = c .before .before .before .before .before .before .before .before .before .before .before .before .before .before .before in
-    let l = c .before .before .before .before .before .before .before .before .before .loop in
-    let r = c .before .before .before .before .before .before .before .row-face in
-    let o = c .before .before .before .before .write-face in
-    let h : l .k < length (emitted (s .args .case)) = omega (arith, c .before .before .before .before .before .before .before .before .loop-test .taken, c .before .before .before .before .before .before .before .before .before .before .row-faces .ensures) in (
-      face-more (s .args .table .now) (edgePoint (s .args .values .now) (s .args .lattice) (s .args .iso)) (s .args .offsets .now) (s .args .first .0) (s .args .case) (l .k) (r .result) h (r .ensures) (l .inv .0) (o .ensures),
-      omega (arith, c .before .before .before .before .before .before .before .before .loop-test .taken),
-    )
+    let t = turn (read c) in
+    (written-more-faces (entry (t .before) .args .offsets .now) _ _ _ _ (one-of t) (read c .row-face .ensures) (t .before .loop .inv .0) (c .before .before .before .before .write-face .ensures), omega (arith, t .loop-test .taken))
 
 same-length : tie.Need-same-length Inv-loop μ-loop
-same-length c = let s = c .before .before .before .before .before .before .before in vertices-kept (s .args .table .now) (edgePoint (s .args .values .now) (s .args .lattice) (s .args .iso)) (c .before .loop .inv .0)
+same-length c = vertices-kept (c .before .loop .inv .0)
 
 same-length-2 : tie.Need-same-length-2 Inv-loop μ-loop
-same-length-2 c = let s = c .before .before .before .before .before .before .before in faces-kept (s .args .table .now) (edgePoint (s .args .values .now) (s .args .lattice) (s .args .iso)) (c .before .loop .inv .0)
+same-length-2 c = faces-kept (c .before .loop .inv .0)
 
 returns : tie.Need-returns Inv-loop μ-loop
 returns c =
-    let s = c .before .before .before .before .before .before .before in
+    let a = entry (c .before) .args in
     let l = c .before .loop in
-    subst (Written (s .args .table .now) (edgePoint (s .args .values .now) (s .args .lattice) (s .args .iso)) (s .args .vertices .now) (l .vertices) (s .args .faces .now) (l .faces) (s .args .had) (record { vertices = l .placed; faces = l .written }))
-    (all-faces (s .args .offsets .now) (s .args .first .0) (s .args .case) (l .k) (omega (arith, c .loop-test .left, c .before .before .row-faces .ensures))) (l .inv .0)
+    written-as (all-faces (a .offsets .now) (a .first .0) (a .case) (l .k) (omega (arith, c .loop-test .left, c .before .before .row-faces .ensures))) (l .inv .0)
 
 pub write-row-spec : {M : Type 1} → statement M
 write-row-spec =

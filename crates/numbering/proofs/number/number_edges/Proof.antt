@@ -1,5 +1,4 @@
--- `numbering::number::number_edges` meets its contract: the table is cleared, and all planes are numbered.
--- Assumes nothing.
+-- The table is cleared, so it is that of no edge; all planes are numbered, and what they leave is the definition's (`counted-all`).
 use mathlib.Core.Path.{_≡_, sym, subst, _∙_, ap}
 use mathlib.Core.List.{List}
 use Prim.Native.Nat.{ℕ, _*_, _-_}
@@ -12,6 +11,16 @@ use Rattle.numbering.proofs.FirstUse.{counted-all}
 use borrow.Author.Needs.{needs}
 use Rattle.numbering.proofs.number.number_edges.Statement.{statement}
 use Rattle.numbering.proofs.number.number_edges.Tie as tie
+
+-- ---- the places: each seen from one further on
+
+abbrev entry : tie.After-clear-u32 → tie.Start
+entry c = c .before .before .before .before .before .before
+
+abbrev cleared : tie.After-triangles → tie.After-clear-u32
+cleared c = c .before .before .before .before .before .before .before .before
+
+-- ---- the needs
 
 edge-offsets-requires : tie.Need-edge-offsets-requires
 edge-offsets-requires c κs = search needs
@@ -33,9 +42,10 @@ element-copy-out-number-planes-3 c = search needs
 
 number-planes-requires : tie.Need-number-planes-requires
 number-planes-requires c κs =
-    let s = c .before .before .before .before .before .before .before .before .before .before .before .before .before .before in
-    let z = c .before .before .before .before .before .before .before .before .clear-u32 in
-    let m : length (z .last .0) ≡ length (s .args .table .now) = ap length (z .ensures) ∙ length-replicate (length (s .args .table .now)) 0 in (
+    let d = cleared c in
+    let s = entry d in
+    let t = s .args .table .now in
+    let m : length (d .clear-u32 .last .0) ≡ length t = ap length (d .clear-u32 .ensures) ∙ length-replicate (length t) 0 in (
       record {
         two = s .pre .counts .two-z;
         rows = s .pre .counts .two-y;
@@ -44,8 +54,8 @@ number-planes-requires c κs =
         edges = m ∙ s .pre .edges ∙ ap (λ (n : ℕ). 3 * n) (sym (s .pre .nodes));
         most = omega (arith, s .pre .nodes, s .pre .counts .most);
       },
-      c .before .before .before .before .before .before .before .before .before .before .before .edge-offsets .ensures,
-      c .before .before .before .before .before .before .before .before .before .before .triangle-table .ensures,
+      d .before .before .before .edge-offsets .ensures,
+      d .before .before .triangle-table .ensures,
     )
 
 same-length : tie.Need-same-length
@@ -53,12 +63,13 @@ same-length c = search needs
 
 returns : tie.Need-returns
 returns c =
-    let s = c .before .before .before .before .before .before .before .before .before .before .before .before .before .before .before .before .before in
+    let d = cleared (c .before .before .before) in
+    let s = entry d in
     let a = s .args in
     let m = c .before .before .number-planes in
+    let block = blockFaces (a .values .now) (countY (a .t2)) (countZ (a .t2)) (a .iso) (countX (a .t2) - 1) in
     counted-all (a .values .now) (a .t2) (a .iso) (s .pre .counts) (length (a .table .now)) (m .last .0) (m .result) (s .pre .edges)
-    (subst (λ (t : List ℕ). Numbered t (m .last .0) none (m .result) (blockFaces (a .values .now) (countY (a .t2)) (countZ (a .t2)) (a .iso) (countX (a .t2) - 1)))
-    (c .before .before .before .before .before .before .before .before .before .before .before .clear-u32 .ensures) (m .ensures))
+    (subst (λ (t : List ℕ). Numbered t (m .last .0) none (m .result) block) (d .clear-u32 .ensures) (m .ensures))
 
 pub number-edges-spec : {M : Type 1} → statement M
 number-edges-spec =

@@ -1,10 +1,7 @@
--- `numbering::number::number_line` meets its contract: a plain line has no face.
--- Assumes nothing.
-use mathlib.Core.Path.{sym, _∙_, subst}
-use Prim.Native.Nat.{_+_}
+-- A plain line has no face, so nothing changes; every other is its cells'.
+use mathlib.Core.Path.{sym, _∙_}
 use native.Mathlib.Omega.{arith}
-use Rattle.numbering.specs.FirstPass.{Numbered}
-use Rattle.numbering.proofs.Marking.{numbered-none, few-later}
+use Rattle.numbering.proofs.Marking.{numbered-none, numbered-as, few-later}
 use Rattle.cells.specs.Plain.{plain-line}
 use borrow.Author.Needs.{needs}
 use Rattle.numbering.proofs.number.number_line.Statement.{statement}
@@ -16,10 +13,9 @@ is-plain-requires c κs = (c .before .before .pre .0 .inside, c .before .before 
 returns : tie.Need-returns
 returns c =
     let s = c .before .before .before .before in
-    let a = s .args in (
-      subst (Numbered (a .table .now) (a .table .now) (a .had) (a .had)) (sym (plain-line (a .values .now) (a .ny) (a .nz) (a .iso) (a .from .0) (sym (c .before .is-plain .ensures) ∙ c .if1 .taken))) (numbered-none (a .table .now) (a .had)),
-      few-later (a .from .0) (a .from .0 + a .nz) (s .pre .0 .few) (omega arith),
-    )
+    let a = s .args in
+    let plain = plain-line (a .values .now) (a .ny) (a .nz) (a .iso) (a .from .0) (sym (c .before .is-plain .ensures) ∙ c .if1 .taken) in
+    (numbered-as (sym plain) numbered-none, few-later (s .pre .0 .few) (omega arith))
 
 number-cells-requires : tie.Need-number-cells-requires
 number-cells-requires c κs = search needs

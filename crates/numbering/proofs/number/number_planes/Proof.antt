@@ -1,12 +1,14 @@
--- `numbering::number::number_planes` meets its contract: the first i planes are numbered.
--- Assumes nothing.
-use mathlib.Core.Path.{_≡_, subst, _∙_}
+-- After i turns the first i planes are numbered. The next plane lies inside (`inside`), and with few numbers so far.
+use mathlib.Core.Path.{_∙_, ap}
+use mathlib.Core.List.{List}
 use Prim.Native.Nat.{ℕ, _+_, _-_, _*_, _<_, _≤_}
 use native.Mathlib.Nat.{mul-le-mul-right, add-mul, mul-assoc, one-mul, le-mul-of-pos-right}
 use native.Mathlib.Omega.{arith}
+use lib.ListN.{length}
+use Rattle.closed.specs.Faces.{Face}
 use Rattle.cells.specs.CellWords.{planeFaces, blockFaces}
 use Rattle.numbering.specs.FirstPass.{Numbered, Few, none}
-use Rattle.numbering.proofs.Marking.{numbered-start, numbered-more-cells, numbered-kept, few-later}
+use Rattle.numbering.proofs.Marking.{numbered-as, numbered-start, numbered-more-cells, numbered-all, numbered-kept, few-later}
 use borrow.Author.Needs.{needs}
 use Rattle.numbering.proofs.number.number_planes.Statement.{statement}
 use Rattle.numbering.proofs.number.number_planes.Tie as tie
@@ -20,87 +22,95 @@ Inv-loop table₀ values nx ny nz iso offsets triangles vertices₀ faces₀ i�
 abbrev μ-loop : tie.MeasureT-loop
 μ-loop table₀ values nx ny nz iso offsets triangles vertices₀ faces₀ i₀ table vertices faces i = nx - i
 
-loop-holds : tie.Need-loop-holds Inv-loop μ-loop
-loop-holds c =
-    let s = c .before .before in (
-      numbered-start (s .args .table .now) none (λ i. planeFaces (s .args .values .now) (s .args .ny) (s .args .nz) (s .args .iso) (i * (s .args .ny * s .args .nz)) (s .args .ny - 1)),
-      record { vertices = omega arith; faces = omega arith },
-      omega (arith, s .pre .0 .planes),
-    )
+-- ---- the places, and what is known there
 
-add-loop : tie.Need-add-loop Inv-loop μ-loop
-add-loop c =
-    let s = c .before .before .before in
-    let p : 0 < s .args .ny * s .args .nz = omega (arith, mul-le-mul-right (s .args .nz) (s .pre .0 .rows), s .pre .0 .two) in
+abbrev entry : tie.At-loop Inv-loop μ-loop → tie.Start Inv-loop μ-loop
+entry c = c .before .before .before
+
+abbrev turn : tie.After-of Inv-loop μ-loop → tie.In-loop Inv-loop μ-loop
+turn c = c .before .before
+
+-- the next plane's node was named, seen from the turn's end
+abbrev named : tie.After-slice-known2 Inv-loop μ-loop → tie.After-of Inv-loop μ-loop
+named c = c .before .before .before
+
+-- how many nodes a plane has, and the faces of the plane from node n on
+abbrev wide : tie.Start Inv-loop μ-loop → ℕ
+wide s = s .args .ny * s .args .nz
+
+abbrev plane : tie.Start Inv-loop μ-loop → ℕ → List Face
+plane s n = planeFaces (s .args .values .now) (s .args .ny) (s .args .nz) (s .args .iso) n (s .args .ny - 1)
+
+-- the nodes of the next plane and of the one after it are nodes
+inside : (c : tie.In-loop Inv-loop μ-loop) → c .before .loop .i * wide (entry (c .before)) + wide (entry (c .before)) + wide (entry (c .before)) ≤ length (entry (c .before) .args .values .now)
+inside c =
+    let i = c .before .loop .i in
+    let s = entry (c .before) in
+    let h : i + 2 ≤ s .args .nx = omega (arith, c .loop-test .taken) in
+    omega (arith, mul-le-mul-right (wide s) h, add-mul i 2 (wide s), mul-assoc (s .args .nx) (s .args .ny) (s .args .nz), s .pre .0 .inside)
+
+-- there are no more planes than nodes
+fewer : (c : tie.At-loop Inv-loop μ-loop) → c .loop .i + 1 ≤ 16777216
+fewer c =
+    let s = entry c in
+    let p : 0 < wide s = omega (arith, mul-le-mul-right (s .args .nz) (s .pre .0 .rows), s .pre .0 .two) in
     omega (arith, c .loop .inv .2, le-mul-of-pos-right (s .args .nx) p, mul-assoc (s .args .nx) (s .args .ny) (s .args .nz), s .pre .0 .inside, s .pre .0 .most)
 
+-- ---- the needs
+
+loop-holds : tie.Need-loop-holds Inv-loop μ-loop
+loop-holds c = (numbered-start _, record { vertices = omega arith; faces = omega arith }, omega (arith, c .before .before .pre .0 .planes))
+
+add-loop : tie.Need-add-loop Inv-loop μ-loop
+add-loop c = omega (arith, fewer c)
+
 mul-of : tie.Need-mul-of Inv-loop μ-loop
-mul-of c =
-    let s = c .before .before .before .before .before in
-    let h : c .before .before .loop .i + 2 ≤ s .args .nx = omega (arith, c .before .loop-test .taken) in
-    let p : 0 < s .args .ny * s .args .nz = omega (arith, mul-le-mul-right (s .args .nz) (s .pre .0 .rows), s .pre .0 .two) in
-    omega (arith, mul-le-mul-right (s .args .ny * s .args .nz) h, add-mul (c .before .before .loop .i) 2 (s .args .ny * s .args .nz), mul-assoc (s .args .nx) (s .args .ny) (s .args .nz), le-mul-of-pos-right (s .args .nx) p, s .pre .0 .inside, s .pre .0 .most)
+mul-of c = omega (arith, inside (c .before), entry (c .before .before) .pre .0 .most)
 
 mul-of-2 : tie.Need-mul-of-2 Inv-loop μ-loop
-mul-of-2 c =
-    let s = c .before .before .before .before .before in
-    let h : c .before .before .loop .i + 2 ≤ s .args .nx = omega (arith, c .before .loop-test .taken) in
-    let p : 0 < s .args .ny * s .args .nz = omega (arith, mul-le-mul-right (s .args .nz) (s .pre .0 .rows), s .pre .0 .two) in
-    omega (arith, mul-le-mul-right (s .args .ny * s .args .nz) h, add-mul (c .before .before .loop .i) 2 (s .args .ny * s .args .nz), mul-assoc (s .args .nx) (s .args .ny) (s .args .nz), le-mul-of-pos-right (s .args .nx) p, s .pre .0 .inside, s .pre .0 .most)
+mul-of-2 c = omega (arith, inside (c .before), entry (c .before .before) .pre .0 .most)
 
 of-requires : tie.Need-of-requires Inv-loop μ-loop
 of-requires c κs = search needs
 
 number-plane-requires : tie.Need-number-plane-requires Inv-loop μ-loop
 number-plane-requires c κs =
-    let s = c .before .before .before .before .before .before in
-    let l = c .before .before .before .loop in
-    let h : l .i + 2 ≤ s .args .nx = omega (arith, c .before .before .loop-test .taken) in
-    let P = s .args .ny * s .args .nz in (
+    let l = turn c .before in
+    let s = entry l in (
       record {
         two = s .pre .0 .two;
         rows = s .pre .0 .rows;
-        inside = omega (arith, c .of .ensures, mul-le-mul-right P h, add-mul (l .i) 2 P, mul-assoc (s .args .nx) (s .args .ny) (s .args .nz), s .pre .0 .inside);
-        edges = numbered-kept (l .inv .0) ∙ s .pre .0 .edges;
+        inside = omega (arith, c .of .ensures, inside (turn c));
+        edges = numbered-kept (l .loop .inv .0) ∙ s .pre .0 .edges;
         most = s .pre .0 .most;
-        few = few-later (l .i * P) (c .of .result .0) (l .inv .1) (omega (arith, c .of .ensures));
+        few = few-later (l .loop .inv .1) (omega (arith, c .of .ensures));
       },
       s .pre .1,
       s .pre .2,
     )
 
 add-i : tie.Need-add-i Inv-loop μ-loop
-add-i c =
-    let s = c .before .before .before .before .before .before .before .before .before in
-    let p : 0 < s .args .ny * s .args .nz = omega (arith, mul-le-mul-right (s .args .nz) (s .pre .0 .rows), s .pre .0 .two) in
-    omega (arith, c .before .before .before .before .before .before .loop .inv .2, le-mul-of-pos-right (s .args .nx) p, mul-assoc (s .args .nx) (s .args .ny) (s .args .nz), s .pre .0 .inside, s .pre .0 .most)
+add-i c = omega (arith, fewer (turn (named c) .before))
 
 loop-less : tie.Need-loop-less Inv-loop μ-loop
-loop-less c = omega (arith, c .before .before .before .before .before .loop-test .taken)
+loop-less c = omega (arith, turn (named c) .loop-test .taken)
 
 loop-again : tie.Need-loop-again Inv-loop μ-loop
 loop-again c =
-    let s = c .before .before .before .before .before .before .before .before .before in
-    let l = c .before .before .before .before .before .before .loop in
-    let a = s .args in
-    let o = c .before .before .number-plane in
-    let P = a .ny * a .nz in
-    let plane = subst (λ (n : ℕ). Numbered (l .table) (o .last .0) (record { vertices = l .vertices; faces = l .faces }) (o .result) (planeFaces (a .values .now) (a .ny) (a .nz) (a .iso) n (a .ny - 1))) (c .before .before .before .of .ensures) (o .ensures .0) in (
-      numbered-more-cells (l .i) (λ i. planeFaces (a .values .now) (a .ny) (a .nz) (a .iso) (i * (a .ny * a .nz)) (a .ny - 1)) (l .inv .0) plane,
-      few-later (c .before .before .before .of .result .0 + P) ((l .i + 1) * P) (o .ensures .1) (omega (arith, c .before .before .before .of .ensures, add-mul (l .i) 1 P, one-mul P)),
-      omega (arith, c .before .before .before .before .before .loop-test .taken),
+    let n = named c in
+    let l = turn n .before in
+    let P = wide (entry l) in
+    let o = c .before .before .number-plane in (
+      numbered-more-cells _ _ (l .loop .inv .0) (numbered-as (ap (plane (entry l)) (n .of .ensures)) (o .ensures .0)),
+      few-later (o .ensures .1) (omega (arith, n .of .ensures, add-mul (l .loop .i) 1 P, one-mul P)),
+      omega (arith, turn n .loop-test .taken),
     )
 
 same-length : tie.Need-same-length Inv-loop μ-loop
 same-length c = numbered-kept (c .before .loop .inv .0)
 
 returns : tie.Need-returns Inv-loop μ-loop
-returns c =
-    let s = c .before .before .before .before in
-    let l = c .before .loop in
-    let a = s .args in
-    let e : l .i ≡ a .nx - 1 = omega (arith, l .inv .2, c .loop-test .left) in
-    subst (λ (k : ℕ). Numbered (a .table .now) (l .table) none (record { vertices = l .vertices; faces = l .faces }) (blockFaces (a .values .now) (a .ny) (a .nz) (a .iso) k)) e (l .inv .0)
+returns c = let l = c .before .loop in numbered-all _ (omega (arith, l .inv .2, c .loop-test .left)) (l .inv .0)
 
 pub number-planes-spec : {M : Type 1} → statement M
 number-planes-spec =
