@@ -1,6 +1,10 @@
 -- `orientation::orient` meets its contract: it turns all faces where the sum is below zero, and else none. Assumes nothing.
-use mathlib.Core.Path.{sym}
-use Rattle.orientation.specs.Orientation.{orientedFaces}
+use mathlib.Core.Path.{_≡_, sym, ap, _∙_}
+use mathlib.Core.Bool.{true}
+use lib.Ieee.{Float, binary64, ofBits, lt}
+use denote.Ref.{now}
+use Rattle.closed.specs.Faces as Flat
+use Rattle.orientation.specs.Orientation.{agreementOf, orientedFaces}
 use Rattle.orientation.specs.FlatFaces.{meshed-corners}
 use borrow.Author.Needs.{needs}
 use Rattle.orientation.proofs.orient.Statement.{statement}
@@ -17,7 +21,11 @@ same-length c = search needs
 
 returns : tie.Need-returns
 unfolding orientedFaces
-returns c = rw (← c .before .before .before .before .before .agreement .ensures, c .before .before .before .before .if1 .taken) (c .before .before .turn-all .ensures)
+returns c =
+    let d = c .before .before .before .before in
+    let x = d .before .before .before .before .before .before .args in
+    let below : lt (agreementOf (x .g) (now (x .values)) (now (x .vertices)) (Flat.faces (now (x .faces)))) (ofBits binary64 0) ≡ true = ap (λ (sum : Float). lt sum (ofBits binary64 0)) (sym (d .before .agreement .ensures)) ∙ d .if1 .taken in
+    rw below (c .before .before .turn-all .ensures)
 
 same-length-2 : tie.Need-same-length-2
 same-length-2 c = search needs
