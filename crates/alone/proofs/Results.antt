@@ -19,7 +19,7 @@ use Rattle.settings.specs.declared.Verdict.{Verdict}
 use Rattle.settings.specs.declared.Verdict.the-variants.{Pass, ScratchRoom}
 use Rattle.settings.specs.Answers.{accepts, refused}
 use Rattle.settings.specs.Refusals.{_when_, _then_, earlyVerdict, usableVerdict, extentVerdict}
-use Rattle.settings.specs.Passed.{both-pass, unless, Ready, ready}
+use Rattle.settings.specs.Passed.{both-pass, unless, ChecksPassed, ready}
 use Rattle.scan.specs.Reconstruction.{extentFor, fieldFor}
 use Rattle.scan.specs.FieldAlone.{valuesVerdict, fieldVerdict, fieldAnswer, fieldUnder, fieldResults}
 use Rattle.alone.specs.Inner.{FieldShown}
@@ -49,7 +49,7 @@ module _ (xs : List Float) (st : Settings) (lent : Lengths) (field : List Float)
         values = z ∙ ap zeros32 all ∙ sym (ap (λ (b : Bool). padded zero32 (length field) (cond b (fieldFor ps st) [])) a);
       })
 
-  pub field-ready : v ≡ Pass → Ready xs st lent × (8 ^ st .depth ≤ length field)
+  pub field-ready : v ≡ Pass → ChecksPassed xs st lent × (8 ^ st .depth ≤ length field)
   unfolding fieldVerdict valuesVerdict
   field-ready t =
       let n = 8 ^ st .depth in

@@ -13,7 +13,7 @@ use Rattle.lists.specs.Part.{part-at}
 use Rattle.closed.specs.Grid.{node}
 use Rattle.blur.specs.declared.blur.Place.{Place}
 use Rattle.blur.specs.declared.blur.Place.the-variants.{At, Outside}
-use Rattle.blur.specs.Blur.{movedTo, placeAlong, lineNode, withTerm, blurTo, blurAt, offsetsOf}
+use Rattle.blur.specs.Blur.{movedTo, placeAlong, lineNode, withTerm, blurTo, blurAt, offsetCount}
 use Rattle.blur.specs.Inner.{across}
 use Rattle.blur.proofs.Moved.{inside-moved}
 
@@ -51,19 +51,19 @@ module _ (n r : ℕ) (v kernel : List Float) (radius : ℕ) {last : List Float} 
   along : (axis : ℕ) (u : List Float) (line : ℕ → ℕ → ℕ) (place : ℕ → ℕ)
       → ((k : ℕ) → k < n → (p : ℕ) → p < n → at u (line k p) ≡ at v (lineNode axis n (r * n + k) p))
       → ((k : ℕ) → k < n → place k ≡ placeAlong axis n (r * n + k))
-      → last ≡ tabulate len (λ k. blurTo u (line k) n (place k) radius kernel (offsetsOf radius))
+      → last ≡ tabulate len (λ k. blurTo u (line k) n (place k) radius kernel (offsetCount radius))
       → last ≡ tabulate n (λ k. blurAt axis n radius kernel v (r * n + k))
   unfolding blurAt
   along axis u line place same there e =
       e
-      ∙ ap (λ (m : ℕ). tabulate m (λ k. blurTo u (line k) n (place k) radius kernel (offsetsOf radius))) size
+      ∙ ap (λ (m : ℕ). tabulate m (λ k. blurTo u (line k) n (place k) radius kernel (offsetCount radius))) size
       ∙ tabulate-ext n _ _
       (λ k h.
-      blur-lines u v kernel (line k) (lineNode axis n (r * n + k)) n (place k) radius (offsetsOf radius) (same k h)
-      ∙ ap (λ (i : ℕ). blurTo v (lineNode axis n (r * n + k)) n i radius kernel (offsetsOf radius)) (there k h))
+      blur-lines u v kernel (line k) (lineNode axis n (r * n + k)) n (place k) radius (offsetCount radius) (same k h)
+      ∙ ap (λ (i : ℕ). blurTo v (lineNode axis n (r * n + k)) n i radius kernel (offsetCount radius)) (there k h))
 
   pub axis-0 : {axis first : ℕ} → axis ≡ 0 → first ≡ r % n * n
-      → last ≡ tabulate len (λ k. blurTo v (across first (n * n) k) n (r / n) radius kernel (offsetsOf radius))
+      → last ≡ tabulate len (λ k. blurTo v (across first (n * n) k) n (r / n) radius kernel (offsetCount radius))
       → last ≡ tabulate n (λ k. blurAt axis n radius kernel v (r * n + k))
   axis-0 {axis} {first} is from e =
       along 0 v (across first (n * n)) (λ _. r / n)
@@ -73,7 +73,7 @@ module _ (n r : ℕ) (v kernel : List Float) (radius : ℕ) {last : List Float} 
       ∙ ap (λ (a : ℕ). tabulate n (λ k. blurAt a n radius kernel v (r * n + k))) (sym is)
 
   pub axis-1 : {axis first : ℕ} → axis ≡ 1 → first ≡ r / n * (n * n)
-      → last ≡ tabulate len (λ k. blurTo v (across first n k) n (r % n) radius kernel (offsetsOf radius))
+      → last ≡ tabulate len (λ k. blurTo v (across first n k) n (r % n) radius kernel (offsetCount radius))
       → last ≡ tabulate n (λ k. blurAt axis n radius kernel v (r * n + k))
   axis-1 {axis} {first} is from e =
       along 1 v (across first n) (λ _. r % n)
@@ -83,7 +83,7 @@ module _ (n r : ℕ) (v kernel : List Float) (radius : ℕ) {last : List Float} 
       ∙ ap (λ (a : ℕ). tabulate n (λ k. blurAt a n radius kernel v (r * n + k))) (sym is)
 
   pub axis-2 : (axis : ℕ) → (axis ≡ 0 → ⊥) → (axis ≡ 1 → ⊥)
-      → last ≡ tabulate len (λ k. blurTo (part (r * n) (r * n + n) v) (λ p. p) len k radius kernel (offsetsOf radius))
+      → last ≡ tabulate len (λ k. blurTo (part (r * n) (r * n + n) v) (λ p. p) len k radius kernel (offsetCount radius))
       → last ≡ tabulate n (λ k. blurAt axis n radius kernel v (r * n + k))
   axis-2 zero a b e = absurd (a refl)
   axis-2 (suc zero) a b e = absurd (b refl)
@@ -91,4 +91,4 @@ module _ (n r : ℕ) (v kernel : List Float) (radius : ℕ) {last : List Float} 
       along (suc (suc x)) (part (r * n) (r * n + n) v) (λ _ p. p) (λ k. k)
       (λ k h p hp. part-at nan (r * n) (r * n + n) v p (omega arith) ∙ ap (at v) (line-2 n r h p x))
       (λ k h. sym (digits-mod r h))
-      (e ∙ ap (λ (m : ℕ). tabulate len (λ k. blurTo (part (r * n) (r * n + n) v) (λ p. p) m k radius kernel (offsetsOf radius))) size)
+      (e ∙ ap (λ (m : ℕ). tabulate len (λ k. blurTo (part (r * n) (r * n + n) v) (λ p. p) m k radius kernel (offsetCount radius))) size)

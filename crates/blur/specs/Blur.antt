@@ -2,13 +2,14 @@
 -- All values at the nodes are f32; n is the number of nodes per side, and N = n * n * n. Definitions only; assumes nothing.
 use mathlib.Core.Bool.{_&&_, cond}
 use mathlib.Core.List.{List}
-use Prim.Native.Nat.{ℕ, zero, suc, _+_, _-_, _*_, _/_, _%_}
+use Prim.Native.Nat.{ℕ, zero, suc, _+_, _-_, _*_}
 use lib.IntN.{pos}
 use lib.Dec.{leb, ltb}
 use lib.Ieee.{Float, binary32, binary64, ofBits, ofInt, toUnsigned, add, mul, div}
 use Rattle.lists.specs.Lists.{tabulate, at, zero32}
 use Rattle.numbers.specs.Arithmetic.{ceiled, clamped, expNeg}
 use Rattle.closed.specs.Grid.{node}
+use Rattle.grid.specs.Grid.{digitI, digitJ, digitK}
 use Rattle.blur.specs.declared.blur.Place.{Place}
 use Rattle.blur.specs.declared.blur.Place.the-variants.{At, Outside}
 
@@ -43,12 +44,12 @@ abbrev pub reachOf : (radius t : ℕ) → ℕ
 reachOf radius t = (t - radius) + (radius - t)
 
 -- how many there are
-abbrev pub offsetsOf : (radius : ℕ) → ℕ
-offsetsOf radius = radius + radius + 1
+abbrev pub offsetCount : (radius : ℕ) → ℕ
+offsetCount radius = radius + radius + 1
 
 -- their weights
 unfoldable pub kernelOf : (sigma : Float) → List Float
-kernelOf sigma = tabulate (offsetsOf (radiusOf sigma)) (λ t. weightOf sigma (reachOf (radiusOf sigma) t))
+kernelOf sigma = tabulate (offsetCount (radiusOf sigma)) (λ t. weightOf sigma (reachOf (radiusOf sigma) t))
 
 -- ---- the blur along one axis: 0, 1 or 2
 
@@ -58,15 +59,15 @@ movedTo n radius place t = cond (leb radius (place + t) && ltb (place + t - radi
 
 -- node q's place along the axis
 abbrev pub placeAlong : (axis n q : ℕ) → ℕ
-placeAlong zero n q = q / n / n
-placeAlong (suc zero) n q = q / n % n
-placeAlong (suc (suc a)) n q = q % n
+placeAlong zero n q = digitI n n q
+placeAlong (suc zero) n q = digitJ n n q
+placeAlong (suc (suc a)) n q = digitK n q
 
 -- the node at place p of the line along the axis through node q
 abbrev pub lineNode : (axis n q p : ℕ) → ℕ
-lineNode zero n q p = node n n p (q / n % n) (q % n)
-lineNode (suc zero) n q p = node n n (q / n / n) p (q % n)
-lineNode (suc (suc a)) n q p = node n n (q / n / n) (q / n % n) p
+lineNode zero n q p = node n n p (digitJ n n q) (digitK n q)
+lineNode (suc zero) n q p = node n n (digitI n n q) p (digitK n q)
+lineNode (suc (suc a)) n q p = node n n (digitI n n q) (digitJ n n q) p
 
 -- the sum s with one term more, weight·value; an outside term is skipped. The line says which node stands at a place
 unfoldable pub withTerm : (v : List Float) (line : ℕ → ℕ) (w : Float) → Place → (s : Float) → Float
@@ -80,7 +81,7 @@ blurTo v line n place radius kernel (suc t) = withTerm v line (at kernel t) (mov
 
 -- of all offsets, at node q
 unfoldable pub blurAt : (axis n radius : ℕ) (kernel v : List Float) (q : ℕ) → Float
-blurAt axis n radius kernel v q = blurTo v (lineNode axis n q) n (placeAlong axis n q) radius kernel (offsetsOf radius)
+blurAt axis n radius kernel v q = blurTo v (lineNode axis n q) n (placeAlong axis n q) radius kernel (offsetCount radius)
 
 -- at every node
 abbrev pub blurredAlong : (axis n radius : ℕ) (kernel v : List Float) → List Float

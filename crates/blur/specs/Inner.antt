@@ -8,7 +8,7 @@ use Rattle.lists.specs.Lists.{at}
 use Rattle.blur.specs.declared.blur.Place.{Place}
 use Rattle.blur.specs.declared.blur.Place.the-variants.{At, Outside}
 use Rattle.blur.specs.declared.kernel.Kernel.{Kernel}
-use Rattle.blur.specs.Blur.{radiusOf, offsetsOf, kernelOf, movedTo}
+use Rattle.blur.specs.Blur.{radiusOf, offsetCount, kernelOf, movedTo}
 
 -- x[k] + w * p[k]
 abbrev pub plusTimes : (w : Float) (x p : List Float) (k : ℕ) → Float
@@ -32,4 +32,4 @@ pub record KernelOf (sigma : Float) (k : Kernel) : Type 0 where
   pub reach : k .radius ≡ radiusOf sigma
   pub most : k .radius ≤ 18
   pub room : length (k .weights) ≡ 37
-  pub all : take (offsetsOf (k .radius)) (k .weights) ≡ kernelOf sigma
+  pub all : take (offsetCount (k .radius)) (k .weights) ≡ kernelOf sigma

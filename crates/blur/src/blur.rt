@@ -5,7 +5,7 @@ ghost use Prim.Native.Nat.{ℕ, _+_, _*_, _≤_, _<_};
 ghost use lib.ListN.{length};
 ghost use Rattle.lists.specs.Lists.{tabulate, at};
 ghost use Rattle.grid.specs.Grid.{Sides, allNodes};
-ghost use Rattle.blur.specs.Blur.{movedTo, withTerm, blurTo, blurAt, offsetsOf};
+ghost use Rattle.blur.specs.Blur.{movedTo, withTerm, blurTo, blurAt, offsetCount};
 ghost use Rattle.blur.specs.Inner.{plusTimes, across, Reach, FirstOutside};
 use grid::Grid;
 use grid::Node;
@@ -71,8 +71,8 @@ fn blur_across(
     kernel: &[f32],
     radius: usize,
 )
-    requires { ⌜ (place < n) × (n ≤ 256) × (radius ≤ 18) × (length (now kernel) ≡ offsetsOf radius) × ((p : ℕ) → p < n → first .0 + p * stride + length (now out) ≤ length (now v)) ⌝ }
-    ensures { λ _. ⌜ now (out .exit) ≡ tabulate (length (now (out .entry))) (λ k. blurTo (now (v .entry)) (across (first .0) stride k) n place radius (now (kernel .entry)) (offsetsOf radius)) ⌝ }
+    requires { ⌜ (place < n) × (n ≤ 256) × (radius ≤ 18) × (length (now kernel) ≡ offsetCount radius) × ((p : ℕ) → p < n → first .0 + p * stride + length (now out) ≤ length (now v)) ⌝ }
+    ensures { λ _. ⌜ now (out .exit) ≡ tabulate (length (now (out .entry))) (λ k. blurTo (now (v .entry)) (across (first .0) stride k) n place radius (now (kernel .entry)) (offsetCount radius)) ⌝ }
 {
     lists::clear_f32(out);
     let mut t = 0usize;
@@ -117,8 +117,8 @@ fn add_along(out: &mut [f32], v: &[f32], t: usize, radius: usize, w: f32)
 
 // A row that is a line itself.
 fn blur_along(out: &mut [f32], v: &[f32], kernel: &[f32], radius: usize)
-    requires { ⌜ (0 < length (now out)) × (length (now out) ≤ 256) × (length (now v) ≡ length (now out)) × (radius ≤ 18) × (length (now kernel) ≡ offsetsOf radius) ⌝ }
-    ensures { λ _. ⌜ now (out .exit) ≡ tabulate (length (now (out .entry))) (λ k. blurTo (now (v .entry)) (λ p. p) (length (now (out .entry))) k radius (now (kernel .entry)) (offsetsOf radius)) ⌝ }
+    requires { ⌜ (0 < length (now out)) × (length (now out) ≤ 256) × (length (now v) ≡ length (now out)) × (radius ≤ 18) × (length (now kernel) ≡ offsetCount radius) ⌝ }
+    ensures { λ _. ⌜ now (out .exit) ≡ tabulate (length (now (out .entry))) (λ k. blurTo (now (v .entry)) (λ p. p) (length (now (out .entry))) k radius (now (kernel .entry)) (offsetCount radius)) ⌝ }
 {
     lists::clear_f32(out);
     let mut t = 0usize;
@@ -138,7 +138,7 @@ fn blur_row(
     kernel: &[f32],
     radius: usize,
 )
-    requires { ⌜ (n ≤ 256) × (row < n * n) × (length (now out) ≡ n) × (length (now v) ≡ n * n * n) × (radius ≤ 18) × (length (now kernel) ≡ offsetsOf radius) ⌝ }
+    requires { ⌜ (n ≤ 256) × (row < n * n) × (length (now out) ≡ n) × (length (now v) ≡ n * n * n) × (radius ≤ 18) × (length (now kernel) ≡ offsetCount radius) ⌝ }
     ensures { λ _. ⌜ now (out .exit) ≡ tabulate n (λ k. blurAt axis n radius (now (kernel .entry)) (now (v .entry)) (row * n + k)) ⌝ }
 {
     let i = row / n;
@@ -156,7 +156,7 @@ fn blur_row(
 
 // The pass, row by row.
 pub fn blur_axis(g: Grid, v: &[f32], out: &mut [f32], axis: usize, kernel: &[f32], radius: usize)
-    requires { ⌜ Sides (g .nodes) × (length (now v) ≡ allNodes g) × (length (now out) ≡ allNodes g) × (radius ≤ 18) × (length (now kernel) ≡ offsetsOf radius) ⌝ }
+    requires { ⌜ Sides (g .nodes) × (length (now v) ≡ allNodes g) × (length (now out) ≡ allNodes g) × (radius ≤ 18) × (length (now kernel) ≡ offsetCount radius) ⌝ }
     ensures { λ _. ⌜ now (out .exit) ≡ tabulate (allNodes g) (blurAt axis (g .nodes) radius (now (kernel .entry)) (now (v .entry))) ⌝ }
 {
     let n = g.nodes;

@@ -7,14 +7,14 @@ ghost use mathlib.Core.Path.{_≡_};
 ghost use Prim.Native.Nat.{_*_, _≤_};
 ghost use lib.ListN.{length};
 ghost use Rattle.grid.specs.Grid.{Sides, allNodes};
-ghost use Rattle.blur.specs.Blur.{offsetsOf, blurred};
+ghost use Rattle.blur.specs.Blur.{offsetCount, blurred};
 pub use crate::blur::blur_axis;
 use grid::Grid;
 pub use kernel::Kernel;
 
 // Axes 0, 1, 2: from s to out, back, and again. What is left in s is of no use.
 pub fn blur_all(g: Grid, kernel: &[f32], radius: usize, s: &mut [f32], out: &mut [f32])
-    requires { ⌜ Sides (g .nodes) × (radius ≤ 18) × (length (now kernel) ≡ offsetsOf radius) × (length (now s) ≡ allNodes g) × (length (now out) ≡ allNodes g) ⌝ }
+    requires { ⌜ Sides (g .nodes) × (radius ≤ 18) × (length (now kernel) ≡ offsetCount radius) × (length (now s) ≡ allNodes g) × (length (now out) ≡ allNodes g) ⌝ }
     ensures { λ _. ⌜ now (out .exit) ≡ blurred (g .nodes) radius (now (kernel .entry)) (now (s .entry)) ⌝ }
 {
     blur_axis(g, s, out, 0, kernel, radius);

@@ -9,7 +9,7 @@ use lib.ListN.{length, getD}
 use Rattle.lists.specs.Lists.{at, tabulate}
 use Rattle.closed.specs.Lists.{bit, sum, cells}
 use Rattle.closed.specs.Faces.{Face, mapFace}
-use Rattle.closed.specs.Table.{cornerAt, lowOf, axisOf, caseOf}
+use Rattle.closed.specs.Table.{cornerAt, lowOf, cubeAxis, caseOf}
 use Rattle.closed.specs.Rows.{emitted}
 use Rattle.closed.specs.Grid.{node, edge}
 use Rattle.grid.specs.Grid.{nodeOf}
@@ -23,7 +23,7 @@ abbrev pub nodeOffset : (ny nz c : ℕ) → ℕ
 nodeOffset ny nz c = node ny nz (cornerAt c .0) (cornerAt c .1) (cornerAt c .2)
 
 abbrev pub edgeOffset : (ny nz e : ℕ) → ℕ
-edgeOffset ny nz e = edge (nodeOffset ny nz (lowOf e)) (axisOf e)
+edgeOffset ny nz e = edge (nodeOffset ny nz (lowOf e)) (cubeAxis e)
 
 -- the bits of the side of cells at node n: corners 0 to 3 of the cell there
 unfoldable pub sideAt : (values : List Float) (ny nz : ℕ) (iso : Float) (n : ℕ) → ℕ
@@ -34,13 +34,13 @@ sideAt values ny nz iso n =
     + 8 * bit (isBelow (at values (n + nz)) iso)
 
 -- how many of the nz nodes from n on are below
-abbrev pub belowIn : (values : List Float) (nz : ℕ) (iso : Float) (n : ℕ) → ℕ
-belowIn values nz iso n = sum nz (λ k. bit (isBelow (at values (n + k)) iso))
+abbrev pub belowCount : (values : List Float) (nz : ℕ) (iso : Float) (n : ℕ) → ℕ
+belowCount values nz iso n = sum nz (λ k. bit (isBelow (at values (n + k)) iso))
 
 -- of the four rows of nodes round the line of cells from n on; and whether that is none of them, or all
 abbrev pub lineBelow : (values : List Float) (ny nz : ℕ) (iso : Float) (n : ℕ) → ℕ
 lineBelow values ny nz iso n =
-    belowIn values nz iso n + belowIn values nz iso (n + ny * nz) + belowIn values nz iso (n + ny * nz + nz) + belowIn values nz iso (n + nz)
+    belowCount values nz iso n + belowCount values nz iso (n + ny * nz) + belowCount values nz iso (n + ny * nz + nz) + belowCount values nz iso (n + nz)
 
 abbrev pub plainLine : (values : List Float) (ny nz : ℕ) (iso : Float) (n : ℕ) → Bool
 plainLine values ny nz iso n = eqb (lineBelow values ny nz iso n) 0 || eqb (lineBelow values ny nz iso n) (4 * nz)
@@ -52,11 +52,11 @@ caseAt values ny nz iso n = caseOf (λ c. isBelow (at values (n + nodeOffset ny 
 unfoldable pub rowFaces : (offsets : List ℕ) (first case : ℕ) → List Face
 rowFaces offsets first case = map (mapFace (λ e. first + getD offsets e 0)) (emitted case)
 
-abbrev pub offsetsOf : (ny nz : ℕ) → List ℕ
-offsetsOf ny nz = tabulate 12 (edgeOffset ny nz)
+abbrev pub edgeOffsets : (ny nz : ℕ) → List ℕ
+edgeOffsets ny nz = tabulate 12 (edgeOffset ny nz)
 
 unfoldable pub facesAt : (values : List Float) (ny nz : ℕ) (iso : Float) (n : ℕ) → List Face
-facesAt values ny nz iso n = rowFaces (offsetsOf ny nz) (3 * n) (caseAt values ny nz iso n)
+facesAt values ny nz iso n = rowFaces (edgeOffsets ny nz) (3 * n) (caseAt values ny nz iso n)
 
 -- of the cells of a line, of a plane and of all, whose first node is n
 abbrev pub lineFaces : (values : List Float) (ny nz : ℕ) (iso : Float) (n k : ℕ) → List Face

@@ -12,7 +12,7 @@ use Rattle.lists.specs.Lists.{at, tabulate}
 use Rattle.lists.specs.Tabulate.{at-tabulate}
 use Rattle.closed.specs.Lists.{bit, All, cells, cells3}
 use Rattle.closed.specs.Faces.{Face, face, mapFace, corners}
-use Rattle.closed.specs.Table.{cornerAt, lowOf, axisOf, caseOf}
+use Rattle.closed.specs.Table.{cornerAt, lowOf, cubeAxis, caseOf}
 use Rattle.closed.specs.Rows.{emitted}
 use Rattle.closed.specs.Grid.{node, edge, cornerBelow, cellCase, cellEdge, cellFaces, gridFaces}
 use Rattle.closed.specs.Counting.{bit-le, cells-cong, all-map}
@@ -25,7 +25,7 @@ use Rattle.cubes.specs.Cube.{placeOf}
 use Rattle.cubes.specs.Edges.{in-cube, axis-small}
 use Rattle.cubes.specs.Emitted.{emitted-edges}
 use Rattle.cells.specs.Extraction.{isBelow, belowAt, countX, countY, countZ, below, edgeFaces, unit}
-use Rattle.cells.specs.CellWords.{nodeOffset, edgeOffset, stride, sideAt, caseAt, rowFaces, offsetsOf, facesAt, lineFaces, planeFaces, blockFaces}
+use Rattle.cells.specs.CellWords.{nodeOffset, edgeOffset, stride, sideAt, caseAt, rowFaces, edgeOffsets, facesAt, lineFaces, planeFaces, blockFaces}
 
 -- ---- numbers of nodes add up
 
@@ -99,7 +99,7 @@ edge-small ny nz n N e h b =
       unit-node ny nz (cornerAt (lowOf e) .0) (cornerAt (lowOf e) .1) (cornerAt (lowOf e) .2) (omega (arith, q .x)) (omega (arith, q .y)) (omega (arith, q .z)),
     )
 
-pub offset-at : (ny nz e : ℕ) → e < 12 → getD (offsetsOf ny nz) e 0 ≡ edgeOffset ny nz e
+pub offset-at : (ny nz e : ℕ) → e < 12 → getD (edgeOffsets ny nz) e 0 ≡ edgeOffset ny nz e
 offset-at ny nz e b = at-tabulate 0 12 (edgeOffset ny nz) e b
 
 -- as code makes an offset: the lower corner's place, its node and the axis
@@ -114,7 +114,7 @@ corner-inside counts e low place h b l p =
       k = omega (arith, q .z, ap (λ (t : ℕ × ℕ × ℕ). t .2) x, h .two-z);
     }
 
-pub offset-is : (ny nz e low axis n : ℕ) (place : List ℕ) → low ≡ lowOf e → placeOf place ≡ cornerAt low → n ≡ nodeAt ny nz place → axis ≡ axisOf e
+pub offset-is : (ny nz e low axis n : ℕ) (place : List ℕ) → low ≡ lowOf e → placeOf place ≡ cornerAt low → n ≡ nodeAt ny nz place → axis ≡ cubeAxis e
     → edge n axis ≡ edgeOffset ny nz e
 offset-is ny nz e low axis n place l p m a =
     ap₂ edge
@@ -139,7 +139,7 @@ module _ (values : List Float) (ny nz : ℕ) (iso : Float) (i j k : ℕ) where
       case-cong (λ c. isBelow (at values (node ny nz i j k + nodeOffset ny nz c)) iso) (cornerBelow (belowAt values ny nz iso) i j k)
       (λ c. ap (λ (m : ℕ). isBelow (at values m) iso) (sym (node-add ny nz i j k (cornerAt c .0) (cornerAt c .1) (cornerAt c .2))))
 
-  edge-of-cell : (e : ℕ) → e < 12 → 3 * node ny nz i j k + getD (offsetsOf ny nz) e 0 ≡ cellEdge ny nz i j k e
+  edge-of-cell : (e : ℕ) → e < 12 → 3 * node ny nz i j k + getD (edgeOffsets ny nz) e 0 ≡ cellEdge ny nz i j k e
   unfolding edge
   edge-of-cell e b =
       let c = cornerAt (lowOf e) in
@@ -150,8 +150,8 @@ module _ (values : List Float) (ny nz : ℕ) (iso : Float) (i j k : ℕ) where
   faces-of-cell =
       let n = node ny nz i j k in
       let c = caseAt values ny nz iso n in
-      mapFace-cong (λ e. 3 * n + getD (offsetsOf ny nz) e 0) (cellEdge ny nz i j k) (emitted c)
-      (all-map (λ e. e < 12) (λ e. 3 * n + getD (offsetsOf ny nz) e 0 ≡ cellEdge ny nz i j k e) edge-of-cell (corners (emitted c))
+      mapFace-cong (λ e. 3 * n + getD (edgeOffsets ny nz) e 0) (cellEdge ny nz i j k) (emitted c)
+      (all-map (λ e. e < 12) (λ e. 3 * n + getD (edgeOffsets ny nz) e 0 ≡ cellEdge ny nz i j k e) edge-of-cell (corners (emitted c))
       (emitted-edges c (case-below values ny nz iso n)))
       ∙ ap (λ (m : ℕ). map (mapFace (cellEdge ny nz i j k)) (emitted m)) case-of-cell
 

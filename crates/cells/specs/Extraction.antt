@@ -82,15 +82,15 @@ upperValue values ny nz e =
 abbrev pub countAlong : (axis a count : ℕ) (t : Float) → Float
 countAlong axis a count t = cond (eqb a axis) (add binary64 (ofInt binary64 (pos count)) t) (ofInt binary64 (pos count))
 
-abbrev pub coordinate : (l : Lattice) (axis a count : ℕ) (t : Float) → Float
-coordinate l axis a count t = narrowed (worldAlong (at (l .origin) a) (at (l .step) a) (countAlong axis a count t))
+abbrev pub coordinateAlong : (l : Lattice) (axis a count : ℕ) (t : Float) → Float
+coordinateAlong l axis a count t = narrowed (worldAlong (at (l .origin) a) (at (l .step) a) (countAlong axis a count t))
 
 -- the three coordinates of the vertex on edge e
 unfoldable pub edgePoint : (values : List Float) (l : Lattice) (iso : Float) (e : ℕ) → List Float
 edgePoint values l iso e =
     let p = coordsOf (countY l) (countZ l) (nodeOf e) in
     let t = crossing (lowerValue values (countY l) (countZ l) e) (upperValue values (countY l) (countZ l) e) iso in
-    coordinate l (axisOf e) 0 (getD p 0 0) t ∷ coordinate l (axisOf e) 1 (getD p 1 0) t ∷ coordinate l (axisOf e) 2 (getD p 2 0) t ∷ []
+    coordinateAlong l (axisOf e) 0 (getD p 0 0) t ∷ coordinateAlong l (axisOf e) 1 (getD p 1 0) t ∷ coordinateAlong l (axisOf e) 2 (getD p 2 0) t ∷ []
 
 -- the coordinates of the vertices on these edges, one after the other
 unfoldable pub pointsOf : (point : ℕ → List Float) → List ℕ → List Float

@@ -15,7 +15,7 @@ use Rattle.closed.specs.Lists.{bit, sum, cells}
 use Rattle.closed.specs.Faces.{Face}
 use Rattle.closed.specs.Counting.{bit-le, same?}
 use Rattle.cells.specs.Extraction.{isBelow}
-use Rattle.cells.specs.CellWords.{sideAt, belowIn, lineBelow, plainLine, caseAt, rowFaces, offsetsOf, facesAt, lineFaces}
+use Rattle.cells.specs.CellWords.{sideAt, belowCount, lineBelow, plainLine, caseAt, rowFaces, edgeOffsets, facesAt, lineFaces}
 use Rattle.cells.specs.Cells.{two-sides}
 use Rattle.cells.specs.Rows.{none-below, all-below}
 
@@ -47,7 +47,7 @@ module _ (f : ℕ → Bool) where
       let last : bit (f n) ≡ 1 = omega (arith, bits-most n, bit-le (f n)) in
       up-to 1 n last (bits-all n (omega arith)) k h
 
-pub row-most : (values : List Float) (nz : ℕ) (iso : Float) (m : ℕ) → belowIn values nz iso m ≤ nz
+pub row-most : (values : List Float) (nz : ℕ) (iso : Float) (m : ℕ) → belowCount values nz iso m ≤ nz
 row-most values nz iso m = bits-most (λ k. isBelow (at values (m + k)) iso) nz
 
 cells-nothing : (n : ℕ) (f : ℕ → List Face) → ((i : ℕ) → i < n → f i ≡ []) → cells n f ≡ []
@@ -66,8 +66,8 @@ module _ (values : List Float) (ny nz : ℕ) (iso : Float) (n : ℕ) where
   placed m k i v e h = ap (λ (t : ℕ). bit (low t)) e ∙ h
 
   -- v is 0 or 1: so many of each row are below, and so is each node
-  sides-are : (v : ℕ) → ((m k : ℕ) → k < nz → belowIn values nz iso m ≡ nz * v → bit (low (m + k)) ≡ v)
-      → belowIn values nz iso n ≡ nz * v → belowIn values nz iso (n + ny * nz) ≡ nz * v → belowIn values nz iso (n + ny * nz + nz) ≡ nz * v → belowIn values nz iso (n + nz) ≡ nz * v
+  sides-are : (v : ℕ) → ((m k : ℕ) → k < nz → belowCount values nz iso m ≡ nz * v → bit (low (m + k)) ≡ v)
+      → belowCount values nz iso n ≡ nz * v → belowCount values nz iso (n + ny * nz) ≡ nz * v → belowCount values nz iso (n + ny * nz + nz) ≡ nz * v → belowCount values nz iso (n + nz) ≡ nz * v
       → (k : ℕ) → k < nz → sideAt values ny nz iso (n + k) ≡ 15 * v
   unfolding sideAt
   sides-are v row p q r t k h =
@@ -79,7 +79,7 @@ module _ (values : List Float) (ny nz : ℕ) (iso : Float) (n : ℕ) where
         placed (n + nz) k (n + k + nz) v (omega arith) (row (n + nz) k h t),
       )
 
-  no-face : (s : ℕ) → ((k : ℕ) → k < nz → sideAt values ny nz iso (n + k) ≡ s) → ((m c : ℕ) → c ≡ s + 16 * s → rowFaces (offsetsOf ny nz) m c ≡ [])
+  no-face : (s : ℕ) → ((k : ℕ) → k < nz → sideAt values ny nz iso (n + k) ≡ s) → ((m c : ℕ) → c ≡ s + 16 * s → rowFaces (edgeOffsets ny nz) m c ≡ [])
       → lineFaces values ny nz iso n (nz - 1) ≡ []
   unfolding facesAt
   no-face s sides none =
@@ -92,18 +92,18 @@ module _ (values : List Float) (ny nz : ℕ) (iso : Float) (n : ℕ) where
   none-low e =
       no-face 0
       (sides-are 0 (λ m k h z. bits-none (λ j. low (m + j)) nz (omega arith) k h) (omega arith) (omega arith) (omega arith) (omega arith))
-      (λ m x z. none-below (offsetsOf ny nz) m x z)
+      (λ m x z. none-below (edgeOffsets ny nz) m x z)
 
-  most : (m : ℕ) → belowIn values nz iso m ≤ nz
+  most : (m : ℕ) → belowCount values nz iso m ≤ nz
   most = row-most values nz iso
 
   all-low : lineBelow values ny nz iso n ≡ 4 * nz → lineFaces values ny nz iso n (nz - 1) ≡ []
   all-low e =
-      let p : belowIn values nz iso n ≡ nz * 1 = omega (arith, most n, most (n + ny * nz), most (n + ny * nz + nz), most (n + nz)) in
-      let q : belowIn values nz iso (n + ny * nz) ≡ nz * 1 = omega (arith, most n, most (n + ny * nz), most (n + ny * nz + nz), most (n + nz)) in
-      let r : belowIn values nz iso (n + ny * nz + nz) ≡ nz * 1 = omega (arith, most n, most (n + ny * nz), most (n + ny * nz + nz), most (n + nz)) in
-      let t : belowIn values nz iso (n + nz) ≡ nz * 1 = omega (arith, most n, most (n + ny * nz), most (n + ny * nz + nz), most (n + nz)) in
-      no-face 15 (sides-are 1 (λ m k h z. bits-all (λ j. low (m + j)) nz (omega arith) k h) p q r t) (λ m x z. all-below (offsetsOf ny nz) m x z)
+      let p : belowCount values nz iso n ≡ nz * 1 = omega (arith, most n, most (n + ny * nz), most (n + ny * nz + nz), most (n + nz)) in
+      let q : belowCount values nz iso (n + ny * nz) ≡ nz * 1 = omega (arith, most n, most (n + ny * nz), most (n + ny * nz + nz), most (n + nz)) in
+      let r : belowCount values nz iso (n + ny * nz + nz) ≡ nz * 1 = omega (arith, most n, most (n + ny * nz), most (n + ny * nz + nz), most (n + nz)) in
+      let t : belowCount values nz iso (n + nz) ≡ nz * 1 = omega (arith, most n, most (n + ny * nz), most (n + ny * nz + nz), most (n + nz)) in
+      no-face 15 (sides-are 1 (λ m k h z. bits-all (λ j. low (m + j)) nz (omega arith) k h) p q r t) (λ m x z. all-below (edgeOffsets ny nz) m x z)
 
   pub plain-line : plainLine values ny nz iso n ≡ true → lineFaces values ny nz iso n (nz - 1) ≡ []
   plain-line h =

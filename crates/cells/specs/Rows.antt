@@ -14,7 +14,7 @@ use Rattle.closed.specs.Rows.{rows, row, triangles, emitted}
 use Rattle.closed.specs.Grid.{edge}
 use Rattle.closed.specs.Bounds.{emitted-le}
 use Rattle.cubes.specs.Emitted.{OfCube, face-edges}
-use Rattle.cells.specs.CellWords.{edgeOffset, caseAt, rowFaces, offsetsOf, facesAt, EdgesIn, CubeFace}
+use Rattle.cells.specs.CellWords.{edgeOffset, caseAt, rowFaces, edgeOffsets, facesAt, EdgesIn, CubeFace}
 use Rattle.cells.specs.Cells.{edge-small, offset-at, case-below}
 
 -- ---- the first k faces of a case, and one more
@@ -70,7 +70,7 @@ all-below offsets first case e = ap (rowFaces offsets first) e
 
 -- ---- the cell at node m
 
-pub edges-in : (ny nz m N all first : ℕ) (offsets : List ℕ) → offsets ≡ offsetsOf ny nz → first ≡ edge m 0 → m + ny * nz + nz + 1 < N → all ≡ 3 * N
+pub edges-in : (ny nz m N all first : ℕ) (offsets : List ℕ) → offsets ≡ edgeOffsets ny nz → first ≡ edge m 0 → m + ny * nz + nz + 1 < N → all ≡ 3 * N
     → N ≤ 16777216 → EdgesIn offsets first all
 unfolding edge
 edges-in ny nz m N all first offsets o f h a few = (
@@ -84,7 +84,7 @@ edges-in ny nz m N all first offsets o f h a few = (
   omega arith,
 )
 
-pub cell-faces : (values : List Float) (ny nz : ℕ) (iso : Float) (m first case : ℕ) (offsets : List ℕ) → offsets ≡ offsetsOf ny nz → first ≡ edge m 0
+pub cell-faces : (values : List Float) (ny nz : ℕ) (iso : Float) (m first case : ℕ) (offsets : List ℕ) → offsets ≡ edgeOffsets ny nz → first ≡ edge m 0
     → case ≡ caseAt values ny nz iso m → rowFaces offsets first case ≡ facesAt values ny nz iso m
 unfolding facesAt edge
 cell-faces values ny nz iso m first case offsets o f e =
@@ -92,4 +92,4 @@ cell-faces values ny nz iso m first case offsets o f e =
 
 pub few-cell : (values : List Float) (ny nz : ℕ) (iso : Float) (m : ℕ) → length (facesAt values ny nz iso m) ≤ 5
 unfolding facesAt
-few-cell values ny nz iso m = row-length (offsetsOf ny nz) (3 * m) (caseAt values ny nz iso m) (case-below values ny nz iso m)
+few-cell values ny nz iso m = row-length (edgeOffsets ny nz) (3 * m) (caseAt values ny nz iso m) (case-below values ny nz iso m)

@@ -5,7 +5,7 @@ ghost use lib.ListN.{length, getD};
 ghost use Rattle.closed.specs.Lists.{bit};
 ghost use Rattle.grid.specs.Grid.{Counts};
 ghost use Rattle.cells.specs.Extraction.{isBelow, countY, countZ};
-ghost use Rattle.cells.specs.CellWords.{sideAt, belowIn, plainLine, edgeOffset, offsetsOf};
+ghost use Rattle.cells.specs.CellWords.{sideAt, belowCount, plainLine, edgeOffset, edgeOffsets};
 use grid::Edge;
 use grid::Lattice;
 use grid::Node;
@@ -40,7 +40,7 @@ pub fn side_of(values: &[f32], ny: usize, nz: usize, node: Node, iso: f32) -> us
 // How many nodes of a row are below. The count is a u32, which makes the loop vector code.
 fn count_below(values: &[f32], first: Node, nz: usize, iso: f32) -> usize
     requires { ⌜ (first .0 + nz ≤ length (now values)) × (length (now values) ≤ 16777216) ⌝ }
-    ensures { λ r. ⌜ r ≡ belowIn (now (values .entry)) nz iso (first .0) ⌝ }
+    ensures { λ r. ⌜ r ≡ belowCount (now (values .entry)) nz iso (first .0) ⌝ }
 {
     let mut count = 0u32;
     let mut k = 0usize;
@@ -80,7 +80,7 @@ fn first_edge(lattice: Lattice, e: usize) -> Edge
 // How much greater the number of each of the twelve edges is than 3·n in the cell at node n, made once and lent down.
 pub fn edge_offsets(lattice: Lattice) -> [usize; 12]
     requires { ⌜ Counts (lattice .counts) ⌝ }
-    ensures { λ r. ⌜ r ≡ offsetsOf (countY lattice) (countZ lattice) ⌝ }
+    ensures { λ r. ⌜ r ≡ edgeOffsets (countY lattice) (countZ lattice) ⌝ }
 {
     [
         first_edge(lattice, 0).place(),

@@ -1,7 +1,7 @@
 // A cube's corners and edges, CORNERS and EDGES of `extract_shared`, each behind one named function.
 ghost use mathlib.Core.Path.{_≡_};
 ghost use Prim.Native.Nat.{_<_};
-ghost use Rattle.closed.specs.Table.{cornerAt, endsOf, axisOf, lowOf};
+ghost use Rattle.closed.specs.Table.{cornerAt, endsOf, cubeAxis, lowOf};
 ghost use Rattle.cubes.specs.Cube.{pairOf, placeOf};
 
 const CORNERS: [[usize; 3]; 8] = [
@@ -49,7 +49,7 @@ fn ends(e: usize) -> [usize; 2]
 // The axis of edge e: the first along which its ends lie apart.
 pub fn axis_of(e: usize) -> usize
     requires { ⌜ e < 12 ⌝ }
-    ensures { λ r. ⌜ r ≡ axisOf e ⌝ }
+    ensures { λ r. ⌜ r ≡ cubeAxis e ⌝ }
 {
     let ab = ends(e);
     let a = corner(ab[0]);

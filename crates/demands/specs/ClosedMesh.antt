@@ -35,7 +35,7 @@ use Rattle.settings.specs.declared.Trimming.{Trimming}
 use Rattle.settings.specs.declared.Trimming.the-variants.{Off}
 use Rattle.settings.specs.Answers.{numberOf, accepts, refused, answerUnder}
 use Rattle.settings.specs.Refusals.{earlyVerdict}
-use Rattle.settings.specs.Passed.{accepted, both-pass, Ready, ready}
+use Rattle.settings.specs.Passed.{accepted, both-pass, ChecksPassed, ready}
 use Rattle.scan.specs.Reconstruction.{Results, problemFor, gridFor, latticeFor, fieldFor, levelFor, wholeVertices, wholeFaces, keptVertices, keptFaces, acceptedAnswer, resultsUnder, verdictOf, measured, reconstructed}
 use Rattle.scan.specs.MeshRoom.{count-vertices, extracted-meshed}
 use Rattle.demands.specs.Demand3.{sideNodes, ClosedMesh}
@@ -146,7 +146,7 @@ module _ (xs : List Float) (st : Settings) (lent : Lengths) (zero-number : recon
   unfolding reconstructed measured
   is-made = ap (λ (v : Verdict). resultsUnder v (usables xs) st) passes
 
-  fits : Ready xs st lent
+  fits : ChecksPassed xs st lent
   unfolding verdictOf
   fits = ready xs st lent (both-pass (earlyVerdict xs st lent) _ passes .0)
 

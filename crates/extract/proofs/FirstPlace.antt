@@ -26,7 +26,7 @@ use Rattle.cells.specs.Cells.{edges-below, block-faces}
 use Rattle.closed.specs.Turning.{length-corners}
 use Rattle.cells.specs.CellWords.{blockFaces}
 use Rattle.numbering.specs.FirstPass.{none, edgeTable}
-use Rattle.extract.specs.SecondPass.{Places, place1, placeAll, vertexIn, Room, Written, Mesh}
+use Rattle.extract.specs.SecondPass.{Places, place1, placeAll, vertexIn, RoomFor, Written, Mesh}
 use Rattle.extract.proofs.Placing.{sets-append}
 
 -- ---- the coordinates of several edges
@@ -124,7 +124,7 @@ module _ (values : List Float) (l : Lattice) (iso : Float) (counts : Counts (l .
       ∙ placed (3 * (countX l * countY l * countZ l)) (vertexEdges values l iso) (edgePoint values l iso) three vs [] (corners (edgeFaces values l iso))
       (edges-below values l iso counts) refl
 
-  pub room-all : Room table (edgePoint values l iso) vs os none (blockFaces values (countY l) (countZ l) iso (countX l - 1))
+  pub room-all : RoomFor table (edgePoint values l iso) vs os none (blockFaces values (countY l) (countZ l) iso (countX l - 1))
   room-all =
       record {
         vertices = omega (arith, points, ap (λ (s : Places). s .1) all-placed);

@@ -21,7 +21,7 @@ use Rattle.grid.specs.declared.Lattice.{Lattice}
 use Rattle.cells.specs.Extraction.{edgePoint}
 use Rattle.cells.specs.CellWords.{rowFaces}
 use Rattle.cells.specs.Rows.{firstFaces, one-more, rest-faces}
-use Rattle.extract.specs.SecondPass.{Places, place1, placeAll, vertexIn, Written, Room}
+use Rattle.extract.specs.SecondPass.{Places, place1, placeAll, vertexIn, Written, RoomFor}
 use Rattle.numbering.specs.declared.Totals.{Totals}
 
 -- ---- a run of stores in two parts
@@ -103,8 +103,8 @@ module _ {table : List ℕ} {point : ℕ → List Float} where
   pub written-as : {vs vt : List Float} {os ot : List ℕ} {a b : Totals} {fs gs : List Face} → fs ≡ gs → Written table point vs vt os ot a b fs → Written table point vs vt os ot a b gs
   written-as {vs} {vt} {os} {ot} {a} {b} e w = subst (Written table point vs vt os ot a b) e w
 
-  pub room-as : {vs : List Float} {os : List ℕ} {a : Totals} {fs gs : List Face} → fs ≡ gs → Room table point vs os a fs → Room table point vs os a gs
-  room-as {vs} {os} {a} e r = subst (Room table point vs os a) e r
+  pub room-as : {vs : List Float} {os : List ℕ} {a : Totals} {fs gs : List Face} → fs ≡ gs → RoomFor table point vs os a fs → RoomFor table point vs os a gs
+  room-as {vs} {os} {a} e r = subst (RoomFor table point vs os a) e r
 
   -- ---- the faces of a part of the cells, and of the next part
 
@@ -138,8 +138,8 @@ module _ {table : List ℕ} {point : ℕ → List Float} where
 
   -- ---- room for the next part, where there is room for all
 
-  pub room-next : {vs vt : List Float} {os ot : List ℕ} {a b : Totals} (fs gs hs : List Face) → Room table point vs os a (fs ++ gs ++ hs)
-      → Written table point vs vt os ot a b fs → Room table point vt ot b gs
+  pub room-next : {vs vt : List Float} {os ot : List ℕ} {a b : Totals} (fs gs hs : List Face) → RoomFor table point vs os a (fs ++ gs ++ hs)
+      → Written table point vs vt os ot a b fs → RoomFor table point vt ot b gs
   room-next {vs} {vt} {os} {ot} {a} {b} fs gs hs r w =
       let append = places-append table point in
       let all : placeAll table point (vs, a .vertices) (corners (fs ++ gs ++ hs)) ≡ placeAll table point (placeAll table point (vt, b .vertices) (corners gs)) (corners hs) =
@@ -177,7 +177,7 @@ cells-rest {A} (suc n) f k h = by-cases (decLt k (suc n)) (cells-rest n f k)
 
 module _ {table : List ℕ} {point : ℕ → List Float} (f : ℕ → List Face) where
   pub room-cell : {vs vt : List Float} {os ot : List ℕ} {a b : Totals} (n k : ℕ) → k < n
-      → Room table point vs os a (cells n f) → Written table point vs vt os ot a b (cells k f) → Room table point vt ot b (f k)
+      → RoomFor table point vs os a (cells n f) → Written table point vs vt os ot a b (cells k f) → RoomFor table point vt ot b (f k)
   room-cell n k h r w =
       let t = cells-rest n f (k + 1) (omega arith) in
       room-next (cells k f) (f k) (t .0) (room-as (t .1 ∙ ap (λ (l : List Face). l ++ t .0) (cells-one-more k f)) r) w
@@ -197,7 +197,7 @@ module _ {table : List ℕ} {point : ℕ → List Float} (f : ℕ → List Face)
 
 module _ {table : List ℕ} {point : ℕ → List Float} (offsets : List ℕ) (first case k : ℕ) where
   pub room-face : {vs vt : List Float} {os ot : List ℕ} {a b : Totals} (f : Face) → k < length (emitted case) → f ≡ getD (emitted case) k (face 0 0 0)
-      → Room table point vs os a (rowFaces offsets first case) → Written table point vs vt os ot a b (firstFaces offsets first case k) → Room table point vt ot b (mapFace (λ e. first + getD offsets e 0) f ∷ [])
+      → RoomFor table point vs os a (rowFaces offsets first case) → Written table point vs vt os ot a b (firstFaces offsets first case k) → RoomFor table point vt ot b (mapFace (λ e. first + getD offsets e 0) f ∷ [])
   room-face f h e r w =
       let g : Face → Face = mapFace (λ e. first + getD offsets e 0) in
       let rest : List Face = map g (drop (k + 1) (emitted case)) in

@@ -14,7 +14,7 @@ use Rattle.grid.specs.declared.Lattice.{Lattice}
 use Rattle.cells.specs.Extraction.{countY, countZ, edgeFaces, vertexEdges, extractedFaces, extractedVertices}
 use Rattle.cells.specs.CellWords.{Inner}
 use Rattle.numbering.specs.declared.Totals.{Totals}
-use Rattle.numbering.specs.FirstPass.{Ready, edgeTable}
+use Rattle.numbering.specs.FirstPass.{Numberable, edgeTable}
 
 -- ---- writing: the coordinates, and how many vertices they are of; the faces
 
@@ -40,7 +40,7 @@ pub record Written (table : List ℕ) (point : ℕ → List Float) (vs vs′ : L
   pub counted : got .faces ≡ had .faces + length fs
 
 -- there is room for them
-pub record Room (table : List ℕ) (point : ℕ → List Float) (vs : List Float) (os : List ℕ) (had : Totals) (fs : List Face) : Type 0 where
+pub record RoomFor (table : List ℕ) (point : ℕ → List Float) (vs : List Float) (os : List ℕ) (had : Totals) (fs : List Face) : Type 0 where
   pub vertices : 3 * placeAll table point (vs, had .vertices) (corners fs) .1 ≤ length vs
   pub faces : 3 * (had .faces + length fs) ≤ length os
 
@@ -50,7 +50,7 @@ EdgesOf values l offsets first m =
     (e : ℕ) → e < 12 → (first + getD offsets e 0 < m) × (first + getD offsets e 0 < 50331648) × Inner values l (first + getD offsets e 0)
 
 -- the lattice, its values and its edge table; and the cells from node n on, of which the last ends before node n + `past`
-pub record Inside (values : List Float) (table : List ℕ) (l : Lattice) (n past : ℕ) : Type 0 where
+pub record CellsInside (values : List Float) (table : List ℕ) (l : Lattice) (n past : ℕ) : Type 0 where
   pub counts : Counts (l .counts)
   pub nodes : n + countY l * countZ l + past ≤ length values
   pub edges : length table ≡ 3 * length values
@@ -59,8 +59,8 @@ pub record Inside (values : List Float) (table : List ℕ) (l : Lattice) (n past
 -- ---- what the pass asks and promises
 
 -- the first pass's table, and slices of exactly the lengths that it counted
-pub record Sized (values : List Float) (table : List ℕ) (l : Lattice) (iso : Float) (vertices : List Float) (faces : List ℕ) : Type 0 where
-  pub ready : Ready values table l
+pub record Writable (values : List Float) (table : List ℕ) (l : Lattice) (iso : Float) (vertices : List Float) (faces : List ℕ) : Type 0 where
+  pub ready : Numberable values table l
   pub numbers : table ≡ edgeTable values l iso
   pub points : length vertices ≡ 3 * length (vertexEdges values l iso)
   pub triples : length faces ≡ 3 * length (edgeFaces values l iso)

@@ -7,9 +7,9 @@ ghost use Rattle.closed.specs.Faces.{faceOf, mapFace};
 ghost use Rattle.closed.specs.Rows.{flatTable, emitted};
 ghost use Rattle.grid.specs.Grid.{Counts};
 ghost use Rattle.cells.specs.Extraction.{countX, countY, countZ, edgePoint};
-ghost use Rattle.cells.specs.CellWords.{rowFaces, lineFaces, planeFaces, blockFaces, offsetsOf, CubeFace, Inner};
+ghost use Rattle.cells.specs.CellWords.{rowFaces, lineFaces, planeFaces, blockFaces, edgeOffsets, CubeFace, Inner};
 ghost use Rattle.numbering.specs.FirstPass.{none};
-ghost use Rattle.extract.specs.SecondPass.{place1, vertexIn, EdgesOf, Inside, Room, Written, Sized, Mesh};
+ghost use Rattle.extract.specs.SecondPass.{place1, vertexIn, EdgesOf, CellsInside, RoomFor, Written, Writable, Mesh};
 use cells::cell_edge;
 use cells::edge_offsets;
 use cells::is_plain;
@@ -69,7 +69,7 @@ fn write_face(
     had: Totals,
     offsets: &[usize; 12],
 ) -> Totals
-    requires { ⌜ Counts (lattice .counts) × EdgesOf (now values) lattice (now offsets) (first .0) (length (now table)) × CubeFace face × Room (now table) (edgePoint (now values) lattice iso) (now vertices) (now faces) had (mapFace (λ e. first .0 + getD (now offsets) e 0) (faceOf face) ∷ []) ⌝ }
+    requires { ⌜ Counts (lattice .counts) × EdgesOf (now values) lattice (now offsets) (first .0) (length (now table)) × CubeFace face × RoomFor (now table) (edgePoint (now values) lattice iso) (now vertices) (now faces) had (mapFace (λ e. first .0 + getD (now offsets) e 0) (faceOf face) ∷ []) ⌝ }
     ensures { λ r. ⌜ Written (now (table .entry)) (edgePoint (now (values .entry)) lattice iso) (now (vertices .entry)) (now (vertices .exit)) (now (faces .entry)) (now (faces .exit)) had r (mapFace (λ e. first .0 + getD (now (offsets .entry)) e 0) (faceOf face) ∷ []) ⌝ }
 {
     let done = had.faces;
@@ -103,7 +103,7 @@ fn write_row(
     offsets: &[usize; 12],
     triangles: &[i8; 4096],
 ) -> Totals
-    requires { ⌜ Counts (lattice .counts) × EdgesOf (now values) lattice (now offsets) (first .0) (length (now table)) × (case < 256) × Room (now table) (edgePoint (now values) lattice iso) (now vertices) (now faces) had (rowFaces (now offsets) (first .0) case) × (now triangles ≡ flatTable) ⌝ }
+    requires { ⌜ Counts (lattice .counts) × EdgesOf (now values) lattice (now offsets) (first .0) (length (now table)) × (case < 256) × RoomFor (now table) (edgePoint (now values) lattice iso) (now vertices) (now faces) had (rowFaces (now offsets) (first .0) case) × (now triangles ≡ flatTable) ⌝ }
     ensures { λ r. ⌜ Written (now (table .entry)) (edgePoint (now (values .entry)) lattice iso) (now (vertices .entry)) (now (vertices .exit)) (now (faces .entry)) (now (faces .exit)) had r (rowFaces (now (offsets .entry)) (first .0) case) ⌝ }
 {
     let most = cubes::row_faces(triangles, case);
@@ -151,7 +151,7 @@ fn write_cell(
     offsets: &[usize; 12],
     triangles: &[i8; 4096],
 ) -> Totals
-    requires { ⌜ Counts (lattice .counts) × EdgesOf (now values) lattice (now offsets) (first .0) (length (now table)) × (case < 256) × Room (now table) (edgePoint (now values) lattice iso) (now vertices) (now faces) had (rowFaces (now offsets) (first .0) case) × (now triangles ≡ flatTable) ⌝ }
+    requires { ⌜ Counts (lattice .counts) × EdgesOf (now values) lattice (now offsets) (first .0) (length (now table)) × (case < 256) × RoomFor (now table) (edgePoint (now values) lattice iso) (now vertices) (now faces) had (rowFaces (now offsets) (first .0) case) × (now triangles ≡ flatTable) ⌝ }
     ensures { λ r. ⌜ Written (now (table .entry)) (edgePoint (now (values .entry)) lattice iso) (now (vertices .entry)) (now (vertices .exit)) (now (faces .entry)) (now (faces .exit)) had r (rowFaces (now (offsets .entry)) (first .0) case) ⌝ }
 {
     if case == 0 {
@@ -188,7 +188,7 @@ fn write_cells(
     offsets: &[usize; 12],
     triangles: &[i8; 4096],
 ) -> Totals
-    requires { ⌜ Inside (now values) (now table) lattice (from .0) (countZ lattice + countZ lattice) × Room (now table) (edgePoint (now values) lattice iso) (now vertices) (now faces) had (lineFaces (now values) (countY lattice) (countZ lattice) iso (from .0) (countZ lattice - 1)) × (now offsets ≡ offsetsOf (countY lattice) (countZ lattice)) × (now triangles ≡ flatTable) ⌝ }
+    requires { ⌜ CellsInside (now values) (now table) lattice (from .0) (countZ lattice + countZ lattice) × RoomFor (now table) (edgePoint (now values) lattice iso) (now vertices) (now faces) had (lineFaces (now values) (countY lattice) (countZ lattice) iso (from .0) (countZ lattice - 1)) × (now offsets ≡ edgeOffsets (countY lattice) (countZ lattice)) × (now triangles ≡ flatTable) ⌝ }
     ensures { λ r. ⌜ Written (now (table .entry)) (edgePoint (now (values .entry)) lattice iso) (now (vertices .entry)) (now (vertices .exit)) (now (faces .entry)) (now (faces .exit)) had r (lineFaces (now (values .entry)) (countY lattice) (countZ lattice) iso (from .0) (countZ lattice - 1)) ⌝ }
 {
     let ny = lattice.counts[1];
@@ -240,7 +240,7 @@ fn write_line(
     offsets: &[usize; 12],
     triangles: &[i8; 4096],
 ) -> Totals
-    requires { ⌜ Inside (now values) (now table) lattice (from .0) (countZ lattice + countZ lattice) × Room (now table) (edgePoint (now values) lattice iso) (now vertices) (now faces) had (lineFaces (now values) (countY lattice) (countZ lattice) iso (from .0) (countZ lattice - 1)) × (now offsets ≡ offsetsOf (countY lattice) (countZ lattice)) × (now triangles ≡ flatTable) ⌝ }
+    requires { ⌜ CellsInside (now values) (now table) lattice (from .0) (countZ lattice + countZ lattice) × RoomFor (now table) (edgePoint (now values) lattice iso) (now vertices) (now faces) had (lineFaces (now values) (countY lattice) (countZ lattice) iso (from .0) (countZ lattice - 1)) × (now offsets ≡ edgeOffsets (countY lattice) (countZ lattice)) × (now triangles ≡ flatTable) ⌝ }
     ensures { λ r. ⌜ Written (now (table .entry)) (edgePoint (now (values .entry)) lattice iso) (now (vertices .entry)) (now (vertices .exit)) (now (faces .entry)) (now (faces .exit)) had r (lineFaces (now (values .entry)) (countY lattice) (countZ lattice) iso (from .0) (countZ lattice - 1)) ⌝ }
 {
     if is_plain(values, lattice.counts[1], lattice.counts[2], from, iso) {
@@ -273,7 +273,7 @@ fn write_plane(
     offsets: &[usize; 12],
     triangles: &[i8; 4096],
 ) -> Totals
-    requires { ⌜ Inside (now values) (now table) lattice (from .0) (countY lattice * countZ lattice) × Room (now table) (edgePoint (now values) lattice iso) (now vertices) (now faces) had (planeFaces (now values) (countY lattice) (countZ lattice) iso (from .0) (countY lattice - 1)) × (now offsets ≡ offsetsOf (countY lattice) (countZ lattice)) × (now triangles ≡ flatTable) ⌝ }
+    requires { ⌜ CellsInside (now values) (now table) lattice (from .0) (countY lattice * countZ lattice) × RoomFor (now table) (edgePoint (now values) lattice iso) (now vertices) (now faces) had (planeFaces (now values) (countY lattice) (countZ lattice) iso (from .0) (countY lattice - 1)) × (now offsets ≡ edgeOffsets (countY lattice) (countZ lattice)) × (now triangles ≡ flatTable) ⌝ }
     ensures { λ r. ⌜ Written (now (table .entry)) (edgePoint (now (values .entry)) lattice iso) (now (vertices .entry)) (now (vertices .exit)) (now (faces .entry)) (now (faces .exit)) had r (planeFaces (now (values .entry)) (countY lattice) (countZ lattice) iso (from .0) (countY lattice - 1)) ⌝ }
 {
     let ny = lattice.counts[1];
@@ -318,7 +318,7 @@ fn write_planes(
     offsets: &[usize; 12],
     triangles: &[i8; 4096],
 ) -> Totals
-    requires { ⌜ Inside (now values) (now table) lattice 0 0 × (length (now values) ≡ countX lattice * countY lattice * countZ lattice) × Room (now table) (edgePoint (now values) lattice iso) (now vertices) (now faces) none (blockFaces (now values) (countY lattice) (countZ lattice) iso (countX lattice - 1)) × (now offsets ≡ offsetsOf (countY lattice) (countZ lattice)) × (now triangles ≡ flatTable) ⌝ }
+    requires { ⌜ CellsInside (now values) (now table) lattice 0 0 × (length (now values) ≡ countX lattice * countY lattice * countZ lattice) × RoomFor (now table) (edgePoint (now values) lattice iso) (now vertices) (now faces) none (blockFaces (now values) (countY lattice) (countZ lattice) iso (countX lattice - 1)) × (now offsets ≡ edgeOffsets (countY lattice) (countZ lattice)) × (now triangles ≡ flatTable) ⌝ }
     ensures { λ r. ⌜ Written (now (table .entry)) (edgePoint (now (values .entry)) lattice iso) (now (vertices .entry)) (now (vertices .exit)) (now (faces .entry)) (now (faces .exit)) none r (blockFaces (now (values .entry)) (countY lattice) (countZ lattice) iso (countX lattice - 1)) ⌝ }
 {
     let nx = lattice.counts[0];
@@ -361,7 +361,7 @@ pub fn write_mesh(
     vertices: &mut [f32],
     faces: &mut [u32],
 )
-    requires { ⌜ Sized (now values) (now table) lattice iso (now vertices) (now faces) ⌝ }
+    requires { ⌜ Writable (now values) (now table) lattice iso (now vertices) (now faces) ⌝ }
     ensures { λ _. ⌜ Mesh (now (values .entry)) lattice iso (now (vertices .exit)) (now (faces .exit)) ⌝ }
 {
     let offsets = edge_offsets(lattice);

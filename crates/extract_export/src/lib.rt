@@ -3,8 +3,8 @@
 ghost use mathlib.Core.List.{[], _∷_};
 ghost use lib.ListN.{getD};
 ghost use Rattle.grid.specs.Grid.{Sides, latticeOf};
-ghost use Rattle.numbering.specs.FirstPass.{Ready, Counted};
-ghost use Rattle.extract.specs.SecondPass.{Sized, Mesh};
+ghost use Rattle.numbering.specs.FirstPass.{Numberable, Counted};
+ghost use Rattle.extract.specs.SecondPass.{Writable, Mesh};
 
 // The grid has `nodes` per side from (a, b, c) on, `step` apart. V and F go into `counts`.
 #[no_mangle]
@@ -20,7 +20,7 @@ pub extern "C" fn hoardmagpie_number_edges(
     counts: &mut [usize; 2],
 )
     requires { ⌜ Sides nodes ⌝ }
-    requires { ⌜ Ready (now values) (now table) (latticeOf (record { nodes = nodes; origin = a ∷ b ∷ c ∷ []; step = step })) ⌝ }
+    requires { ⌜ Numberable (now values) (now table) (latticeOf (record { nodes = nodes; origin = a ∷ b ∷ c ∷ []; step = step })) ⌝ }
     ensures { λ _. ⌜ Counted (now (values .entry)) (now (table .exit)) (latticeOf (record { nodes = nodes; origin = a ∷ b ∷ c ∷ []; step = step })) iso (record { vertices = getD (now (counts .exit)) 0 0; faces = getD (now (counts .exit)) 1 0 }) ⌝ }
 {
     let g = grid::Grid {
@@ -47,7 +47,7 @@ pub extern "C" fn hoardmagpie_write_mesh(
     faces: &mut [u32],
 )
     requires { ⌜ Sides nodes ⌝ }
-    requires { ⌜ Sized (now values) (now table) (latticeOf (record { nodes = nodes; origin = a ∷ b ∷ c ∷ []; step = step })) iso (now vertices) (now faces) ⌝ }
+    requires { ⌜ Writable (now values) (now table) (latticeOf (record { nodes = nodes; origin = a ∷ b ∷ c ∷ []; step = step })) iso (now vertices) (now faces) ⌝ }
     ensures { λ _. ⌜ Mesh (now (values .entry)) (latticeOf (record { nodes = nodes; origin = a ∷ b ∷ c ∷ []; step = step })) iso (now (vertices .exit)) (now (faces .exit)) ⌝ }
 {
     let g = grid::Grid {

@@ -9,8 +9,8 @@ ghost use Prim.Native.Nat.{_*_, _<_, _≤_};
 ghost use lib.ListN.{length};
 ghost use Rattle.grid.specs.Grid.{Counts};
 ghost use Rattle.cells.specs.Extraction.{countX, countY, countZ};
-ghost use Rattle.numbering.specs.FirstPass.{Ready, Counted};
-ghost use Rattle.extract.specs.SecondPass.{Sized};
+ghost use Rattle.numbering.specs.FirstPass.{Numberable, Counted};
+ghost use Rattle.extract.specs.SecondPass.{Writable};
 use extract::Totals;
 use grid::Lattice;
 use libc::STDIN_FILENO;
@@ -116,7 +116,7 @@ fn compare_mesh(
     faces: &mut [u32],
     grid: u64,
 ) -> Compared
-    requires { ⌜ (at ≤ length (now text)) × Sized (now values) (now table) lattice iso (now vertices) (now faces) ⌝ }
+    requires { ⌜ (at ≤ length (now text)) × Writable (now values) (now table) lattice iso (now vertices) (now faces) ⌝ }
     ensures { λ r. ⌜ (at ≤ r .next) × (r .next ≤ length (now (text .entry))) × (r .differ ≤ 1) ⌝ }
 {
     extract::write_mesh(values, lattice, iso, table, vertices, faces);
@@ -139,7 +139,7 @@ fn replay_writing(
     totals: Totals,
     grid: u64,
 ) -> Compared
-    requires { ⌜ (at ≤ length (now text)) × Ready (now values) (now table) lattice × Counted (now values) (now table) lattice iso totals × (totals .vertices ≤ 256) × (totals .faces ≤ 256) ⌝ }
+    requires { ⌜ (at ≤ length (now text)) × Numberable (now values) (now table) lattice × Counted (now values) (now table) lattice iso totals × (totals .vertices ≤ 256) × (totals .faces ≤ 256) ⌝ }
     ensures { λ r. ⌜ (at ≤ r .next) × (r .next ≤ length (now (text .entry))) × (r .differ ≤ 1) ⌝ }
 {
     let v = 3 * totals.vertices;
@@ -187,7 +187,7 @@ fn replay_numbering(
     table: &mut [u32],
     grid: u64,
 ) -> Compared
-    requires { ⌜ (at ≤ length (now text)) × Ready (now values) (now table) lattice ⌝ }
+    requires { ⌜ (at ≤ length (now text)) × Numberable (now values) (now table) lattice ⌝ }
     ensures { λ r. ⌜ (at ≤ r .next) × (r .next ≤ length (now (text .entry))) × (r .differ ≤ 1) ⌝ }
 {
     let mesh = read_values(text, at, values);

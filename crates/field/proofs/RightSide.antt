@@ -14,7 +14,7 @@ use Rattle.grid.specs.Rows.{boundary-row, no-end}
 use Rattle.grid.specs.declared.Grid.{Grid}
 use Rattle.points.specs.declared.point.Point.{Point}
 use Rattle.blur.specs.declared.kernel.Kernel.{Kernel}
-use Rattle.blur.specs.Blur.{sigmaOf, radiusOf, offsetsOf, kernelOf}
+use Rattle.blur.specs.Blur.{sigmaOf, radiusOf, offsetCount, kernelOf}
 use Rattle.blur.specs.Inner.{KernelOf}
 use Rattle.field.specs.Field.{rightSideAt, rightSideBy, rightSide}
 use Rattle.field.specs.Inner.{innerAt, rowAt}
@@ -55,11 +55,11 @@ side-of n h e f g = cc
 
 -- the kernel as it is made, read as a part of its array, is sigma's
 pub by-kernel : (g : Grid) (ps : List Point) (spacing smoothing : Float) {sigma : Float} {k : Kernel} {b : List Float} → sigma ≡ sigmaOf smoothing spacing (g .step) → KernelOf sigma k
-    → b ≡ rightSideBy g ps (k .radius) (part 0 (offsetsOf (k .radius)) (k .weights)) → b ≡ rightSide g ps spacing smoothing
+    → b ≡ rightSideBy g ps (k .radius) (part 0 (offsetCount (k .radius)) (k .weights)) → b ≡ rightSide g ps spacing smoothing
 unfolding rightSide
 by-kernel g ps spacing smoothing {sigma} {k} e made is =
     is
-    ∙ ap (λ (m : ℕ). rightSideBy g ps (k .radius) (take m (k .weights))) (sub-zero (offsetsOf (k .radius)))
+    ∙ ap (λ (m : ℕ). rightSideBy g ps (k .radius) (take m (k .weights))) (sub-zero (offsetCount (k .radius)))
     ∙ ap (λ (l : List Float). rightSideBy g ps (k .radius) l) (made .all)
     ∙ ap (λ (r : ℕ). rightSideBy g ps r (kernelOf sigma)) (made .reach)
     ∙ ap (λ (s : Float). rightSideBy g ps (radiusOf s) (kernelOf s)) e

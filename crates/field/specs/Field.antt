@@ -9,9 +9,9 @@ use Rattle.lists.specs.Lists.{tabulate, at, zero32, zeros32}
 use Rattle.numbers.specs.Arithmetic.{narrowed}
 use Rattle.grid.specs.declared.Grid.{Grid}
 use Rattle.grid.specs.declared.Cell.{Cell}
-use Rattle.grid.specs.Grid.{cellAt, weightAt, cornerAt, boundaryNode, allNodes}
+use Rattle.grid.specs.Grid.{cellAt, weightAt, cellCorner, boundaryNode, allNodes}
 use Rattle.points.specs.declared.point.Point.{Point}
-use Rattle.points.specs.Points.{placeOf, unitOf}
+use Rattle.points.specs.Points.{positionOf, unitOf}
 use Rattle.blur.specs.Blur.{sigmaOf, radiusOf, kernelOf, blurred}
 
 -- ---- points in order, corners in order: add the narrowed weight·unit
@@ -19,7 +19,7 @@ use Rattle.blur.specs.Blur.{sigmaOf, radiusOf, kernelOf, blurred}
 -- corner c of a cell, for a unit's component u: the product is taken in f64, narrowed once, and added in f32
 unfoldable pub cornerAdded : (n : ℕ) (cell : Cell) (u : Float) (c : ℕ) (v : List Float) → List Float
 cornerAdded n cell u c v =
-    set v (cornerAt n cell c) (add binary32 (at v (cornerAt n cell c)) (narrowed (mul binary64 (weightAt cell c) u)))
+    set v (cellCorner n cell c) (add binary32 (at v (cellCorner n cell c)) (narrowed (mul binary64 (weightAt cell c) u)))
 
 -- the first c corners
 unfoldable pub cornersAdded : (n : ℕ) (cell : Cell) (u : Float) (c : ℕ) (v : List Float) → List Float
@@ -28,7 +28,7 @@ cornersAdded n cell u (suc c) v = cornerAdded n cell u c (cornersAdded n cell u 
 
 -- a point with all eight; a is the component: 0, 1 or 2
 unfoldable pub pointAdded : (g : Grid) (a : ℕ) (v : List Float) (p : Point) → List Float
-pointAdded g a v p = cornersAdded (g .nodes) (cellAt g (placeOf p)) (at (unitOf p) a) 8 v
+pointAdded g a v p = cornersAdded (g .nodes) (cellAt g (positionOf p)) (at (unitOf p) a) 8 v
 
 -- all points, from zeros
 unfoldable pub splatted : (g : Grid) (ps : List Point) (a : ℕ) → List Float

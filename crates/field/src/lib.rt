@@ -9,7 +9,7 @@ ghost use lib.ListN.{length};
 ghost use Rattle.lists.specs.Lists.{zeros32};
 ghost use Rattle.grid.specs.Grid.{Sides, allNodes};
 ghost use Rattle.points.specs.Points.{usables};
-ghost use Rattle.blur.specs.Blur.{offsetsOf};
+ghost use Rattle.blur.specs.Blur.{offsetCount};
 ghost use Rattle.field.specs.Field.{componentOf, rightSideBy, rightSide};
 use blur::Kernel;
 use grid::Grid;
@@ -24,7 +24,7 @@ fn component(
     s: &mut [f32],
     out: &mut [f32],
 )
-    requires { ⌜ Sides (g .nodes) × (radius ≤ 18) × (length (now kernel) ≡ offsetsOf radius) × (a < 3) × (length (now s) ≡ allNodes g) × (length (now out) ≡ allNodes g) ⌝ }
+    requires { ⌜ Sides (g .nodes) × (radius ≤ 18) × (length (now kernel) ≡ offsetCount radius) × (a < 3) × (length (now s) ≡ allNodes g) × (length (now out) ≡ allNodes g) ⌝ }
     ensures { λ _. ⌜ now (out .exit) ≡ componentOf g (usables (now (points .entry))) radius (now (kernel .entry)) a ⌝ }
 {
     splat::splat(g, points, a, s);
@@ -43,7 +43,7 @@ fn right_side_by(
     y: &mut [f32],
     z: &mut [f32],
 )
-    requires { ⌜ Sides (g .nodes) × (radius ≤ 18) × (length (now kernel) ≡ offsetsOf radius) × (length (now b) ≡ allNodes g) × (length (now s) ≡ allNodes g) × (length (now x) ≡ allNodes g) × (length (now y) ≡ allNodes g) × (length (now z) ≡ allNodes g) ⌝ }
+    requires { ⌜ Sides (g .nodes) × (radius ≤ 18) × (length (now kernel) ≡ offsetCount radius) × (length (now b) ≡ allNodes g) × (length (now s) ≡ allNodes g) × (length (now x) ≡ allNodes g) × (length (now y) ≡ allNodes g) × (length (now z) ≡ allNodes g) ⌝ }
     ensures { λ _. ⌜ now (b .exit) ≡ rightSideBy g (usables (now (points .entry))) radius (now (kernel .entry)) ⌝ }
 {
     component(points, g, kernel, radius, 0, s, x);

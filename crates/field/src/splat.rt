@@ -3,7 +3,7 @@ ghost use mathlib.Core.Path.{_≡_};
 ghost use mathlib.Core.Bool.{cond};
 ghost use Prim.Native.Nat.{_*_, _<_};
 ghost use lib.ListN.{length};
-ghost use Rattle.grid.specs.Grid.{Sides, Inside, allNodes};
+ghost use Rattle.grid.specs.Grid.{Sides, CellInside, allNodes};
 ghost use Rattle.points.specs.Points.{usableOf, usables};
 ghost use Rattle.field.specs.Field.{cornerAdded, pointAdded, splatted};
 use grid::Cell;
@@ -12,7 +12,7 @@ use points::Point;
 
 // The narrowed weight·unit at corner c: the product in f64, the sum in f32.
 fn add_corner(v: &mut [f32], g: Grid, cell: Cell, u: f64, c: usize)
-    requires { ⌜ Sides (g .nodes) × Inside (g .nodes) cell × (length (now v) ≡ allNodes g) ⌝ }
+    requires { ⌜ Sides (g .nodes) × CellInside (g .nodes) cell × (length (now v) ≡ allNodes g) ⌝ }
     ensures { λ _. ⌜ now (v .exit) ≡ cornerAdded (g .nodes) cell u c (now (v .entry)) ⌝ }
 {
     let q = g.corner(cell, c).place();

@@ -11,7 +11,7 @@ use lib.Ieee.{Float, binary64, inFloat, ofInt, toUnsigned, sub}
 use Rattle.grid.specs.declared.Along.{Along}
 use Rattle.grid.specs.declared.Cell.{Cell}
 use Rattle.grid.specs.declared.Grid.{Grid}
-use Rattle.grid.specs.Grid.{Sides, Inside, placed, alongOf, axisAt, cellAt}
+use Rattle.grid.specs.Grid.{Sides, CellInside, placed, alongOf, axisAt, cellAt}
 use Rattle.grid.specs.Cells.{cell-inside}
 use Rattle.grid.specs.FloorCast.{floor-cast, placed-fits}
 
@@ -39,6 +39,6 @@ along-is n o h p u w cell is-u is-w is-cell = rw (is-cell, is-w, is-u, floor-cas
 
 pub cell-is : (g : Grid) (p : List Float) (x y z : Along) → Sides (g .nodes) → x ≡ axisAt g p 0 → y ≡ axisAt g p 1 → z ≡ axisAt g p 2
     → (_≡_ {A = Cell} (record { base = x .cell ∷ y .cell ∷ z .cell ∷ []; frac = x .frac ∷ y .frac ∷ z .frac ∷ [] }) (cellAt g p))
-    × Inside (g .nodes) (record { base = x .cell ∷ y .cell ∷ z .cell ∷ []; frac = x .frac ∷ y .frac ∷ z .frac ∷ [] })
+    × CellInside (g .nodes) (record { base = x .cell ∷ y .cell ∷ z .cell ∷ []; frac = x .frac ∷ y .frac ∷ z .frac ∷ [] })
 unfolding cellAt
 cell-is g p x y z sides hx hy hz = rw (hx, hy, hz) (refl, cell-inside g p sides)

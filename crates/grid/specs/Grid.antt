@@ -42,9 +42,18 @@ pub record Position (nx ny nz : ℕ) (at : List ℕ) : Type 0 where
 abbrev pub nodeAt : (ny nz : ℕ) (at : List ℕ) → ℕ
 nodeAt ny nz at = node ny nz (getD at 0 0) (getD at 1 0) (getD at 2 0)
 
--- the position of the node q
+-- the digits i, j, k of the node q, and its position
+abbrev pub digitI : (ny nz q : ℕ) → ℕ
+digitI ny nz q = q / nz / ny
+
+abbrev pub digitJ : (ny nz q : ℕ) → ℕ
+digitJ ny nz q = q / nz % ny
+
+abbrev pub digitK : (nz q : ℕ) → ℕ
+digitK nz q = q % nz
+
 abbrev pub coordsOf : (ny nz q : ℕ) → List ℕ
-coordsOf ny nz q = q / nz / ny ∷ q / nz % ny ∷ q % nz ∷ []
+coordsOf ny nz q = digitI ny nz q ∷ digitJ ny nz q ∷ digitK nz q ∷ []
 
 -- the node that the edge e goes from, and the axis along which it goes
 abbrev pub nodeOf : (e : ℕ) → ℕ
@@ -64,7 +73,7 @@ onBoundary n i j k = atEnd n i || atEnd n j || atEnd n k
 
 -- of the node q, and of all nodes of the row r = i·n+j, which has the n nodes from r·n on
 abbrev pub boundaryNode : (n q : ℕ) → Bool
-boundaryNode n q = onBoundary n (q / n / n) (q / n % n) (q % n)
+boundaryNode n q = onBoundary n (digitI n n q) (digitJ n n q) (digitK n q)
 
 abbrev pub boundaryRow : (n r : ℕ) → Bool
 boundaryRow n r = atEnd n (r / n) || atEnd n (r % n)
@@ -110,32 +119,32 @@ cellAt g p =
     }
 
 -- the cell lies in the cube, so each of its corners is a node
-pub record Inside (n : ℕ) (q : Cell) : Type 0 where
+pub record CellInside (n : ℕ) (q : Cell) : Type 0 where
   pub i : getD (q .base) 0 0 + 1 < n
   pub j : getD (q .base) 1 0 + 1 < n
   pub k : getD (q .base) 2 0 + 1 < n
 
 -- corner c = 0..7 takes di, dj, dk from its bits 2, 1, 0
-abbrev pub offsetsOf : (c : ℕ) → List ℕ
-offsetsOf c = c / 4 % 2 ∷ c / 2 % 2 ∷ c % 2 ∷ []
+abbrev pub cornerBits : (c : ℕ) → List ℕ
+cornerBits c = c / 4 % 2 ∷ c / 2 % 2 ∷ c % 2 ∷ []
 
 -- its weight along one axis: 1-t on the near side, t on the far one
-abbrev pub sideOf : (d : ℕ) (t : Float) → Float
-sideOf zero t = sub binary64 one64 t
-sideOf (suc d) t = t
+abbrev pub shareAlong : (d : ℕ) (t : Float) → Float
+shareAlong zero t = sub binary64 one64 t
+shareAlong (suc d) t = t
 
 -- its weight (wi·wj)·wk
 unfoldable pub weightAt : (q : Cell) (c : ℕ) → Float
 weightAt q c =
-    let d = offsetsOf c in
+    let d = cornerBits c in
     mul binary64
-    (mul binary64 (sideOf (getD d 0 0) (at (q .frac) 0)) (sideOf (getD d 1 0) (at (q .frac) 1)))
-    (sideOf (getD d 2 0) (at (q .frac) 2))
+    (mul binary64 (shareAlong (getD d 0 0) (at (q .frac) 0)) (shareAlong (getD d 1 0) (at (q .frac) 1)))
+    (shareAlong (getD d 2 0) (at (q .frac) 2))
 
 -- its node
-unfoldable pub cornerAt : (n : ℕ) (q : Cell) (c : ℕ) → ℕ
-cornerAt n q c =
-    let d = offsetsOf c in
+unfoldable pub cellCorner : (n : ℕ) (q : Cell) (c : ℕ) → ℕ
+cellCorner n q c =
+    let d = cornerBits c in
     node n n (getD (q .base) 0 0 + getD d 0 0) (getD (q .base) 1 0 + getD d 1 0) (getD (q .base) 2 0 + getD d 2 0)
 
 -- ---- a sample
@@ -143,7 +152,7 @@ cornerAt n q c =
 -- weight·value of the first c corners, added in corner order from -0.0
 unfoldable pub sumTo : (n : ℕ) (values : List Float) (q : Cell) (c : ℕ) → Float
 sumTo n values q zero = neg (ofBits binary64 0)
-sumTo n values q (suc c) = add binary64 (sumTo n values q c) (mul binary64 (weightAt q c) (at values (cornerAt n q c)))
+sumTo n values q (suc c) = add binary64 (sumTo n values q c) (mul binary64 (weightAt q c) (at values (cellCorner n q c)))
 
 unfoldable pub sampled : (g : Grid) (values p : List Float) → Float
 sampled g values p = sumTo (g .nodes) values (cellAt g p) 8

@@ -2,7 +2,7 @@
 ghost use mathlib.Core.Path.{_≡_};
 ghost use Prim.Native.Nat.{_*_};
 ghost use lib.ListN.{length};
-ghost use Rattle.grid.specs.Grid.{Sides, alongOf, cellAt, Inside, offsetsOf, sideOf, weightAt, cornerAt, sampled, allNodes};
+ghost use Rattle.grid.specs.Grid.{Sides, alongOf, cellAt, CellInside, cornerBits, shareAlong, weightAt, cellCorner, sampled, allNodes};
 use crate::Along;
 use crate::Cell;
 use crate::Grid;
@@ -28,14 +28,14 @@ fn cell_along(n: usize, origin: f64, step: f64, p: f64) -> Along
 
 // Corner c's offsets di, dj, dk are its bits 2, 1, 0.
 fn offsets(c: usize) -> [usize; 3]
-    ensures { λ r. ⌜ r ≡ offsetsOf c ⌝ }
+    ensures { λ r. ⌜ r ≡ cornerBits c ⌝ }
 {
     [c / 4 % 2, c / 2 % 2, c % 2]
 }
 
 // A corner's weight along one axis: the fraction at the far side, what is left of 1 at the near one.
 fn side(d: usize, t: f64) -> f64
-    ensures { λ r. ⌜ r ≡ sideOf d t ⌝ }
+    ensures { λ r. ⌜ r ≡ shareAlong d t ⌝ }
 {
     if d == 0 { 1.0 - t } else { t }
 }
@@ -54,7 +54,7 @@ impl Grid {
     // The cell of a place, which may be any three floats.
     pub fn cell(self, p: [f64; 3]) -> Cell
         requires { ⌜ Sides (self .nodes) ⌝ }
-        ensures { λ r. ⌜ (r ≡ cellAt self p) × Inside (self .nodes) r ⌝ }
+        ensures { λ r. ⌜ (r ≡ cellAt self p) × CellInside (self .nodes) r ⌝ }
     {
         let x = cell_along(self.nodes, self.origin[0], self.step, p[0]);
         let y = cell_along(self.nodes, self.origin[1], self.step, p[1]);
@@ -68,8 +68,8 @@ impl Grid {
     // Corner c of a cell.
     pub fn corner(self, cell: Cell, c: usize) -> Node
         requires { ⌜ Sides (self .nodes) ⌝ }
-        requires { ⌜ Inside (self .nodes) cell ⌝ }
-        ensures { λ r. ⌜ r .0 ≡ cornerAt (self .nodes) cell c ⌝ }
+        requires { ⌜ CellInside (self .nodes) cell ⌝ }
+        ensures { λ r. ⌜ r .0 ≡ cellCorner (self .nodes) cell c ⌝ }
     {
         let d = offsets(c);
         self.node([

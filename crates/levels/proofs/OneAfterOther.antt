@@ -13,7 +13,7 @@ use Rattle.grid.specs.Grid.{gridOf, allNodes}
 use Rattle.points.specs.declared.point.Point.{Point}
 use Rattle.levels.specs.declared.Problem.{Problem}
 use Rattle.levels.specs.Levels.{coarsest, gridAt, nodesAt, startFrom, levelFrom, risen, solution}
-use Rattle.levels.specs.Slices.{Sized}
+use Rattle.levels.specs.Slices.{LevelSlices}
 use Rattle.levels.proofs.Fronts.{zeros-front}
 
 pub nodes-is : (t : Problem) (depth : ℕ) {g : Grid} → g ≡ gridAt t depth → allNodes g ≡ nodesAt depth
@@ -21,7 +21,7 @@ unfolding gridOf
 nodes-is t depth e = ap allNodes e
 
 -- the same slices, counted by the first
-pub sized-by : {n m : ℕ} {x b s r p a : List Float} → Sized n x b s r p a → n ≡ m → Sized m x b s r p a
+pub sized-by : {n m : ℕ} {x b s r p a : List Float} → LevelSlices n x b s r p a → n ≡ m → LevelSlices m x b s r p a
 sized-by z e =
     record { of-x = z .of-x ∙ e; of-b = z .of-b ∙ e; of-s = z .of-s ∙ e; of-r = z .of-r ∙ e; of-p = z .of-p ∙ e; of-ap = z .of-ap ∙ e }
 

@@ -19,7 +19,7 @@ use Rattle.grid.specs.Rows.{first-end, last-end, boundary-node}
 use Rattle.points.specs.declared.point.Point.{Point}
 use Rattle.field.specs.Field.{rightSide}
 use Rattle.field.specs.BoundaryZero.{right-side-boundary}
-use Rattle.solver.specs.Boundary.{BoundaryIs, Alike}
+use Rattle.solver.specs.Boundary.{BoundaryIs, BoundaryUniform}
 use Rattle.solver.specs.BoundaryAlike.{conjugate-alike}
 use Rattle.levels.specs.declared.Problem.{Problem}
 use Rattle.levels.specs.Levels.{coarsest, gridAt, startAt, startFrom, levelFrom, risen, solution}
@@ -38,16 +38,16 @@ start-boundary coarse g before q h e =
 -- ---- so the level is alike, and the last level is the solution
 
 module _ (t : Problem) (ps : List Point) where
-  level-alike : (g : Grid) (x : List Float) → BoundaryIs g x zero32 → Alike g (levelFrom t ps g x)
+  level-alike : (g : Grid) (x : List Float) → BoundaryIs g x zero32 → BoundaryUniform g (levelFrom t ps g x)
   unfolding levelFrom
   level-alike g x h = conjugate-alike g (t .tolerance) (t .cap) (rightSide g ps (t .spacing) (t .smoothing)) x (right-side-boundary g ps (t .spacing) (t .smoothing)) h
 
-  risen-alike : (first k : ℕ) → Alike (gridAt t (first + k)) (risen t ps first k)
+  risen-alike : (first k : ℕ) → BoundaryUniform (gridAt t (first + k)) (risen t ps first k)
   unfolding risen
   risen-alike first zero = rw add-zero (level-alike (gridAt t first) (zeros32 (allNodes (gridAt t first))) (zeros-boundary (gridAt t first)))
   risen-alike first (suc k) = level-alike (gridAt t (first + suc k)) _ (start-boundary (gridAt t (first + k)) (gridAt t (first + suc k)) (risen t ps first k))
 
-  pub boundary-alike : (depth : ℕ) → Alike (gridAt t depth) (solution t ps depth)
+  pub boundary-alike : (depth : ℕ) → BoundaryUniform (gridAt t depth) (solution t ps depth)
   unfolding solution
   boundary-alike depth =
       let all : min depth coarsest + (depth - coarsest) ≡ depth = omega arith in

@@ -7,7 +7,7 @@ use lib.Ieee.{Float}
 use Rattle.lists.specs.Lists.{zeros32}
 
 -- each slice of one level has n elements
-pub record Sized (n : ℕ) (x b s r p ap : List Float) : Type 0 where
+pub record LevelSlices (n : ℕ) (x b s r p ap : List Float) : Type 0 where
   pub of-x : length x ≡ n
   pub of-b : length b ≡ n
   pub of-s : length s ≡ n
@@ -25,7 +25,7 @@ pub record Zeros (before b s r p ap before' b' s' r' p' ap' : List Float) : Type
   pub of-ap : ap' ≡ zeros32 (length ap)
 
 -- the seven slices at exit: x is the solution, the other six are zeros
-pub record Left (n : ℕ) (solution x before b s r p ap : List Float) : Type 0 where
+pub record LevelsLeft (n : ℕ) (solution x before b s r p ap : List Float) : Type 0 where
   pub of-x : x ≡ solution
   pub of-before : before ≡ zeros32 n
   pub of-b : b ≡ zeros32 n

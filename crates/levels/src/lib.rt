@@ -6,7 +6,7 @@ ghost use lib.ListN.{length};
 ghost use Rattle.grid.specs.Grid.{Sides};
 ghost use Rattle.points.specs.Points.{usables};
 ghost use Rattle.levels.specs.Levels.{gridAt, nodesAt, solution};
-ghost use Rattle.levels.specs.Slices.{Sized, Zeros, Left};
+ghost use Rattle.levels.specs.Slices.{LevelSlices, Zeros, LevelsLeft};
 
 mod rising;
 mod starting;
@@ -50,9 +50,9 @@ pub fn solve(
     ap: &mut [f32],
 )
     requires { ⌜ (1 ≤ depth) × (depth ≤ 8) ⌝ }
-    requires { ⌜ Sized (nodesAt depth) (now x) (now b) (now s) (now r) (now p) (now ap) ⌝ }
+    requires { ⌜ LevelSlices (nodesAt depth) (now x) (now b) (now s) (now r) (now p) (now ap) ⌝ }
     requires { ⌜ length (now before) ≡ nodesAt depth ⌝ }
-    ensures { λ _. ⌜ Left (nodesAt depth) (solution problem (usables (now (points .entry))) depth) (now (x .exit)) (now (before .exit)) (now (b .exit)) (now (s .exit)) (now (r .exit)) (now (p .exit)) (now (ap .exit)) ⌝ }
+    ensures { λ _. ⌜ LevelsLeft (nodesAt depth) (solution problem (usables (now (points .entry))) depth) (now (x .exit)) (now (before .exit)) (now (b .exit)) (now (s .exit)) (now (r .exit)) (now (p .exit)) (now (ap .exit)) ⌝ }
 {
     all_levels(problem, points, depth, x, before, b, s, r, p, ap);
     clear_scratch(before, b, s, r, p, ap);

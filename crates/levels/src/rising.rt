@@ -5,7 +5,7 @@ ghost use lib.ListN.{length, take};
 ghost use Rattle.grid.specs.Grid.{Sides, allNodes};
 ghost use Rattle.points.specs.Points.{usables};
 ghost use Rattle.levels.specs.Levels.{coarsest, gridAt, nodesAt, startFrom, levelFrom, risen, solution};
-ghost use Rattle.levels.specs.Slices.{Sized};
+ghost use Rattle.levels.specs.Slices.{LevelSlices};
 use crate::Problem;
 use crate::starting::start_front;
 use grid::Grid;
@@ -23,7 +23,7 @@ fn level(
     ap: &mut [f32],
 )
     requires { ⌜ Sides (g .nodes) ⌝ }
-    requires { ⌜ Sized (allNodes g) (now x) (now b) (now s) (now r) (now p) (now ap) ⌝ }
+    requires { ⌜ LevelSlices (allNodes g) (now x) (now b) (now s) (now r) (now p) (now ap) ⌝ }
     ensures { λ _. ⌜ now (x .exit) ≡ levelFrom problem (usables (now (points .entry))) g (now (x .entry)) ⌝ }
 {
     field::right_side(
@@ -53,7 +53,7 @@ fn level_front(
     ap: &mut [f32],
 )
     requires { ⌜ Sides (g .nodes) ⌝ }
-    requires { ⌜ Sized (length (now x)) (now x) (now b) (now s) (now r) (now p) (now ap) ⌝ }
+    requires { ⌜ LevelSlices (length (now x)) (now x) (now b) (now s) (now r) (now p) (now ap) ⌝ }
     requires { ⌜ allNodes g ≤ length (now x) ⌝ }
     ensures { λ _. ⌜ take (allNodes g) (now (x .exit)) ≡ levelFrom problem (usables (now (points .entry))) g (take (allNodes g) (now (x .entry))) ⌝ }
 {
@@ -84,7 +84,7 @@ fn first_level(
     ap: &mut [f32],
 )
     requires { ⌜ (1 ≤ depth) × (depth ≤ 8) ⌝ }
-    requires { ⌜ Sized (length (now x)) (now x) (now b) (now s) (now r) (now p) (now ap) ⌝ }
+    requires { ⌜ LevelSlices (length (now x)) (now x) (now b) (now s) (now r) (now p) (now ap) ⌝ }
     requires { ⌜ nodesAt depth ≤ length (now x) ⌝ }
     ensures { λ _. ⌜ take (nodesAt depth) (now (x .exit)) ≡ risen problem (usables (now (points .entry))) depth 0 ⌝ }
 {
@@ -106,7 +106,7 @@ fn next_level(
     ap: &mut [f32],
 )
     requires { ⌜ (1 ≤ depth) × (depth < 8) ⌝ }
-    requires { ⌜ Sized (length (now x)) (now x) (now b) (now s) (now r) (now p) (now ap) ⌝ }
+    requires { ⌜ LevelSlices (length (now x)) (now x) (now b) (now s) (now r) (now p) (now ap) ⌝ }
     requires { ⌜ (length (now before) ≡ length (now x)) × (nodesAt depth ≤ length (now x)) × (nodesAt (depth + 1) ≤ length (now x)) ⌝ }
     ensures { λ _. ⌜ take (nodesAt (depth + 1)) (now (x .exit)) ≡ levelFrom problem (usables (now (points .entry))) (gridAt problem (depth + 1)) (startFrom (gridAt problem depth) (gridAt problem (depth + 1)) (take (nodesAt depth) (now (x .entry)))) ⌝ }
 {
@@ -130,7 +130,7 @@ fn rise(
     ap: &mut [f32],
 )
     requires { ⌜ (1 ≤ first) × (first ≤ depth) × (depth ≤ 8) ⌝ }
-    requires { ⌜ Sized (nodesAt depth) (now x) (now b) (now s) (now r) (now p) (now ap) ⌝ }
+    requires { ⌜ LevelSlices (nodesAt depth) (now x) (now b) (now s) (now r) (now p) (now ap) ⌝ }
     requires { ⌜ (length (now before) ≡ nodesAt depth) × (take (nodesAt first) (now x) ≡ risen problem (usables (now points)) first 0) ⌝ }
     ensures { λ _. ⌜ now (x .exit) ≡ risen problem (usables (now (points .entry))) first (depth - first) ⌝ }
 {
@@ -165,7 +165,7 @@ pub fn all_levels(
     ap: &mut [f32],
 )
     requires { ⌜ (1 ≤ depth) × (depth ≤ 8) ⌝ }
-    requires { ⌜ Sized (nodesAt depth) (now x) (now b) (now s) (now r) (now p) (now ap) ⌝ }
+    requires { ⌜ LevelSlices (nodesAt depth) (now x) (now b) (now s) (now r) (now p) (now ap) ⌝ }
     requires { ⌜ length (now before) ≡ nodesAt depth ⌝ }
     ensures { λ _. ⌜ now (x .exit) ≡ solution problem (usables (now (points .entry))) depth ⌝ }
 {

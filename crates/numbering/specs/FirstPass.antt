@@ -68,7 +68,7 @@ pub record Block (values : List Float) (table : List ℕ) (nx ny nz : ℕ) : Typ
 -- ---- what the pass asks and promises
 
 -- the values and the edge table of a lattice
-pub record Ready (values : List Float) (table : List ℕ) (l : Lattice) : Type 0 where
+pub record Numberable (values : List Float) (table : List ℕ) (l : Lattice) : Type 0 where
   pub counts : Counts (l .counts)
   pub nodes : length values ≡ countX l * countY l * countZ l
   pub edges : length table ≡ 3 * (countX l * countY l * countZ l)

@@ -5,8 +5,8 @@ ghost use Prim.Native.Nat.{_+_, _-_, _*_, _<_, _≤_};
 ghost use lib.ListN.{length, getD};
 ghost use Rattle.closed.specs.Faces.{faceOf, mapFace, corners};
 ghost use Rattle.closed.specs.Rows.{flatTable, emitted};
-ghost use Rattle.cells.specs.CellWords.{rowFaces, caseAt, lineFaces, planeFaces, blockFaces, offsetsOf, EdgesIn, CubeFace};
-ghost use Rattle.numbering.specs.FirstPass.{mark1, markAll, Few, none, Numbered, Line, Plane, Block, Ready, Counted};
+ghost use Rattle.cells.specs.CellWords.{rowFaces, caseAt, lineFaces, planeFaces, blockFaces, edgeOffsets, EdgesIn, CubeFace};
+ghost use Rattle.numbering.specs.FirstPass.{mark1, markAll, Few, none, Numbered, Line, Plane, Block, Numberable, Counted};
 use crate::Totals;
 use cells::cell_edge;
 use cells::edge_offsets;
@@ -106,7 +106,7 @@ fn number_cells(
     offsets: &[usize; 12],
     triangles: &[i8; 4096],
 ) -> Totals
-    requires { ⌜ Line (now values) (now table) ny nz (from .0) had × (now offsets ≡ offsetsOf ny nz) × (now triangles ≡ flatTable) ⌝ }
+    requires { ⌜ Line (now values) (now table) ny nz (from .0) had × (now offsets ≡ edgeOffsets ny nz) × (now triangles ≡ flatTable) ⌝ }
     ensures { λ r. ⌜ Numbered (now (table .entry)) (now (table .exit)) had r (lineFaces (now (values .entry)) ny nz iso (from .0) (nz - 1)) × Few r (from .0 + nz) ⌝ }
 {
     let mut near = side_of(values, ny, nz, from, iso);
@@ -144,7 +144,7 @@ fn number_line(
     offsets: &[usize; 12],
     triangles: &[i8; 4096],
 ) -> Totals
-    requires { ⌜ Line (now values) (now table) ny nz (from .0) had × (now offsets ≡ offsetsOf ny nz) × (now triangles ≡ flatTable) ⌝ }
+    requires { ⌜ Line (now values) (now table) ny nz (from .0) had × (now offsets ≡ edgeOffsets ny nz) × (now triangles ≡ flatTable) ⌝ }
     ensures { λ r. ⌜ Numbered (now (table .entry)) (now (table .exit)) had r (lineFaces (now (values .entry)) ny nz iso (from .0) (nz - 1)) × Few r (from .0 + nz) ⌝ }
 {
     if is_plain(values, ny, nz, from, iso) {
@@ -165,7 +165,7 @@ fn number_plane(
     offsets: &[usize; 12],
     triangles: &[i8; 4096],
 ) -> Totals
-    requires { ⌜ Plane (now values) (now table) ny nz (from .0) had × (now offsets ≡ offsetsOf ny nz) × (now triangles ≡ flatTable) ⌝ }
+    requires { ⌜ Plane (now values) (now table) ny nz (from .0) had × (now offsets ≡ edgeOffsets ny nz) × (now triangles ≡ flatTable) ⌝ }
     ensures { λ r. ⌜ Numbered (now (table .entry)) (now (table .exit)) had r (planeFaces (now (values .entry)) ny nz iso (from .0) (ny - 1)) × Few r (from .0 + ny * nz) ⌝ }
 {
     let mut vertices = had.vertices;
@@ -201,7 +201,7 @@ fn number_planes(
     offsets: &[usize; 12],
     triangles: &[i8; 4096],
 ) -> Totals
-    requires { ⌜ Block (now values) (now table) nx ny nz × (now offsets ≡ offsetsOf ny nz) × (now triangles ≡ flatTable) ⌝ }
+    requires { ⌜ Block (now values) (now table) nx ny nz × (now offsets ≡ edgeOffsets ny nz) × (now triangles ≡ flatTable) ⌝ }
     ensures { λ r. ⌜ Numbered (now (table .entry)) (now (table .exit)) none r (blockFaces (now (values .entry)) ny nz iso (nx - 1)) ⌝ }
 {
     let mut vertices = 0usize;
@@ -228,7 +228,7 @@ fn number_planes(
 
 // "A vertex is numbered at first use": the table of 3N elements, which may hold anything, is cleared and filled; the answer is V and F.
 pub fn number_edges(values: &[f32], lattice: Lattice, iso: f32, table: &mut [u32]) -> Totals
-    requires { ⌜ Ready (now values) (now table) lattice ⌝ }
+    requires { ⌜ Numberable (now values) (now table) lattice ⌝ }
     ensures { λ r. ⌜ Counted (now (values .entry)) (now (table .exit)) lattice iso r ⌝ }
 {
     let offsets = edge_offsets(lattice);

@@ -3,11 +3,11 @@
 use mathlib.Core.Path.{_≡_}
 use mathlib.Core.Bool.{cond}
 use mathlib.Core.List.{List, [], _∷_, map, foldl}
-use Prim.Native.Nat.{ℕ, _+_, _*_, _/_, _<_, max}
+use Prim.Native.Nat.{ℕ, _+_, _*_, _/_, _<_}
 use lib.ListN.{length, getD, set}
 use lib.Ieee.{Float, binary32, binary64, ofBits, neg, add, sub, mul, div, lt}
 use Rattle.lists.specs.Lists.{at}
-use Rattle.lists.specs.EveryNth.{everyFrom}
+use Rattle.lists.specs.EveryNth.{strideFor, everyFrom}
 use Rattle.numbers.specs.Arithmetic.{signed}
 use Rattle.closed.specs.Faces.{Face, face, turn}
 use Rattle.grid.specs.declared.Grid.{Grid}
@@ -106,11 +106,8 @@ signAt g values vertices f =
     (mul binary64 (at n 2) (gainAt g values p 2)))
 
 -- faces 0, s, 2s.. with s = max(F/500, 1)
-abbrev pub strideOf : ℕ → ℕ
-strideOf count = max (count / 500) 1
-
 abbrev pub asked : List Face → List Face
-asked fs = everyFrom (strideOf (length fs)) 0 fs
+asked fs = everyFrom (strideFor 500 (length fs)) 0 fs
 
 abbrev pub plusSign : Grid → List Float → List Float → Float → Face → Float
 plusSign g values vertices sum f = add binary64 sum (signAt g values vertices f)

@@ -6,9 +6,10 @@ ghost use mathlib.Core.Path.{_≡_};
 ghost use mathlib.Core.List.{map};
 ghost use Prim.Native.Nat.{_*_, _<_};
 ghost use lib.ListN.{length};
+ghost use Rattle.lists.specs.EveryNth.{strideFor};
 ghost use Rattle.closed.specs.Faces as Flat;
 ghost use Rattle.grid.specs.Grid.{Sides, allNodes};
-ghost use Rattle.orientation.specs.Orientation.{vertexCount, faceCount, Meshed, Corners, gainAt, signAt, strideOf, agreementOf, orientedFaces};
+ghost use Rattle.orientation.specs.Orientation.{vertexCount, faceCount, Meshed, Corners, gainAt, signAt, agreementOf, orientedFaces};
 use grid::Grid;
 pub use triangle::centre;
 use triangle::normal;
@@ -49,7 +50,7 @@ fn sign_at(g: Grid, values: &[f32], vertices: &[f32], face: [u32; 3]) -> f64
 
 // Every how many-th face is asked: about five hundred of them.
 fn stride(count: usize) -> usize
-    ensures { λ r. ⌜ r ≡ strideOf count ⌝ }
+    ensures { λ r. ⌜ r ≡ strideFor 500 count ⌝ }
 {
     let s = count / 500;
     if s < 1 { 1 } else { s }

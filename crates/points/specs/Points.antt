@@ -68,8 +68,8 @@ usableOf p = isUsable (usabilityOf p)
 
 -- ---- what a usable point is used for: its position and its unit, in f64
 
-unfoldable pub placeOf : Point → List Float
-placeOf p = at (p .at) 0 ∷ at (p .at) 1 ∷ at (p .at) 2 ∷ []
+unfoldable pub positionOf : Point → List Float
+positionOf p = at (p .at) 0 ∷ at (p .at) 1 ∷ at (p .at) 2 ∷ []
 
 -- component/length in f32; the f64 that it widens to is the same number
 unfoldable pub unitOf : Point → List Float

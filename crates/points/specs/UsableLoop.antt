@@ -1,5 +1,5 @@
 -- A loop over the given points that acts on the usable ones: one point more is either used or skipped, so a left fold over `usables` is what such a loop computes.
--- `Folded` is its whole invariant, with `folded-none`, `folded-used`, `folded-skipped` (or `folded-more`, both in one) and `folded-done`; `count-le` bounds how many there are. Assumes nothing.
+-- `FoldedUsable` is its whole invariant, with `folded-none`, `folded-used`, `folded-skipped` (or `folded-more`, both in one) and `folded-done`; `count-le` bounds how many there are. Assumes nothing.
 use mathlib.Core.Path.{_≡_, refl, sym, ap, _∙_}
 use mathlib.Core.Bool.{Bool, true, false, cond}
 use mathlib.Core.List.{List, [], _∷_, _++_, foldl}
@@ -59,31 +59,31 @@ count-le xs (suc i) = go (usableOf (pointAt xs i)) refl (count-le xs i)
 
 module _ {B : Type 0} where
   -- s is the fold over the usable ones of the first i points
-  pub record Folded (f : B → Point → B) (z : B) (xs : List Float) (s : B) (i : ℕ) : Type 0 where
+  pub record FoldedUsable (f : B → Point → B) (z : B) (xs : List Float) (s : B) (i : ℕ) : Type 0 where
     pub state : s ≡ foldl f z (usableTo xs i)
     pub within : i ≤ given xs
 
   module _ {f : B → Point → B} {z : B} {xs : List Float} where
-    pub folded-none : Folded f z xs z 0
+    pub folded-none : FoldedUsable f z xs z 0
     folded-none = record { state = sym (ap (foldl f z) (usable-none xs)); within = omega arith }
 
-    module _ {s t : B} {i : ℕ} {p : Point} {b : Bool} (w : Folded f z xs s i) (here : i < given xs) (is : p ≡ pointAt xs i) (test : b ≡ usableOf p) where
-      pub folded-used : b ≡ true → t ≡ f s p → Folded f z xs t (i + 1)
+    module _ {s t : B} {i : ℕ} {p : Point} {b : Bool} (w : FoldedUsable f z xs s i) (here : i < given xs) (is : p ≡ pointAt xs i) (test : b ≡ usableOf p) where
+      pub folded-used : b ≡ true → t ≡ f s p → FoldedUsable f z xs t (i + 1)
       folded-used h e =
           record {
             state = e ∙ ap (λ (u : B). f u p) (w .state) ∙ sym (ap (foldl f z) (used xs i is test h) ∙ fold-snoc f z (usableTo xs i) p);
             within = omega arith;
           }
 
-      pub folded-skipped : b ≡ false → t ≡ s → Folded f z xs t (i + 1)
+      pub folded-skipped : b ≡ false → t ≡ s → FoldedUsable f z xs t (i + 1)
       folded-skipped h e = record { state = e ∙ w .state ∙ sym (ap (foldl f z) (skipped xs i is test h)); within = omega arith }
 
-      pub folded-more : t ≡ cond b (f s p) s → Folded f z xs t (i + 1)
+      pub folded-more : t ≡ cond b (f s p) s → FoldedUsable f z xs t (i + 1)
       folded-more e = go b refl
         where
-          go : (a : Bool) → b ≡ a → Folded f z xs t (i + 1)
+          go : (a : Bool) → b ≡ a → FoldedUsable f z xs t (i + 1)
           go true h = folded-used h (e ∙ rw h)
           go false h = folded-skipped h (e ∙ rw h)
 
-    pub folded-done : {s : B} {i : ℕ} → Folded f z xs s i → given xs ≤ i → s ≡ foldl f z (usables xs)
+    pub folded-done : {s : B} {i : ℕ} → FoldedUsable f z xs s i → given xs ≤ i → s ≡ foldl f z (usables xs)
     folded-done {s} {i} w h = let n : i ≡ given xs = omega (arith, w .within) in w .state ∙ ap (λ (k : ℕ). foldl f z (usableTo xs k)) n

@@ -5,7 +5,7 @@ ghost use lib.ListN.{length};
 ghost use lib.Ieee.{binary32};
 ghost use lib.Ieee.Scale as Scale;
 ghost use Rattle.numbers.specs.Arithmetic.{rooted};
-ghost use Rattle.points.specs.Points.{given, pointAt, squaresOf, lengthOf, lengthUsability, placedOf, usabilityOf, isUsable, usableOf, placeOf, unitOf, usables};
+ghost use Rattle.points.specs.Points.{given, pointAt, squaresOf, lengthOf, lengthUsability, placedOf, usabilityOf, isUsable, usableOf, positionOf, unitOf, usables};
 
 // A position and a normal.
 pub struct Point {
@@ -139,7 +139,7 @@ impl Point {
 
     // The position in f64.
     pub fn place(self) -> [f64; 3]
-        ensures { λ r. ⌜ r ≡ placeOf self ⌝ }
+        ensures { λ r. ⌜ r ≡ positionOf self ⌝ }
     {
         [
             arith::widen(self.at[0]),

@@ -22,7 +22,7 @@ use Rattle.settings.specs.declared.Verdict.{Verdict}
 use Rattle.settings.specs.declared.Verdict.the-variants.{Pass}
 use Rattle.settings.specs.Answers.{accepts, refused, answerUnder}
 use Rattle.settings.specs.Refusals.{_then_, earlyVerdict, usableVerdict, extentVerdict, roomVerdict, meshVerdict}
-use Rattle.settings.specs.Passed.{both-pass, refusal-stands, Ready, ready, room-fits}
+use Rattle.settings.specs.Passed.{both-pass, refusal-stands, ChecksPassed, ready, room-fits}
 use Rattle.scan.specs.declared.Found.{Found}
 use Rattle.scan.specs.Reconstruction.{Results, gridFor, latticeFor, fieldFor, levelFor, extentFor, vertexTotal, faceTotal, keptVertices, keptFaces, acceptedAnswer, lateVerdict, resultsUnder, measured, reconstructed}
 use Rattle.scan.specs.Stages.{concluded}
@@ -54,7 +54,7 @@ module _ (xs : List Float) (st : Settings) (lent : Lengths) {v : Verdict}
       let whole = first-checks xs st lent ∙ ap (λ (u : Verdict). u then l) (sym is) ∙ refusal-stands v l a in
       subst (λ (u : Verdict). Shown (resultsUnder u (usables xs) st) r vs fs) (sym whole) (refused-shown (usables xs) st r vs fs v a e)
 
-  pub first-ready : v ≡ Pass → Ready xs st lent
+  pub first-ready : v ≡ Pass → ChecksPassed xs st lent
   first-ready t =
       ready xs st lent (both-pass (earlyVerdict xs st lent) (usableVerdict (length (usables xs)) then extentVerdict (extentFor (usables xs))) (sym is ∙ t) .0)
 

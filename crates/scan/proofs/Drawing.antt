@@ -16,11 +16,11 @@ use Rattle.grid.specs.Grid.{Sides, Counts, latticeOf}
 use Rattle.points.specs.declared.point.Point.{Point}
 use Rattle.settings.specs.declared.Settings.{Settings}
 use Rattle.cells.specs.Extraction.{countX, countY, countZ, vertexEdges, edgeFaces, extractedVertices, extractedFaces}
-use Rattle.numbering.specs.FirstPass.{Ready, edgeTable}
-use Rattle.extract.specs.SecondPass.{Sized, Mesh}
+use Rattle.numbering.specs.FirstPass.{Numberable, edgeTable}
+use Rattle.extract.specs.SecondPass.{Writable, Mesh}
 use Rattle.orientation.specs.Orientation.{vertexCount, Meshed, orientedFaces}
 use Rattle.orientation.specs.Orienting.{oriented-length, oriented-meshed}
-use Rattle.trim.specs.Trim.{Room, trimmedVertices, trimmedFaces}
+use Rattle.trim.specs.Trim.{TrimRoom, trimmedVertices, trimmedFaces}
 use Rattle.scan.specs.Reconstruction.{gridFor, latticeFor, fieldFor, levelFor, wholeVertices, wholeFaces, vertexTotal, faceTotal, keptVertices, keptFaces}
 use Rattle.scan.specs.Stages.{Drawable}
 use Rattle.scan.specs.MeshRoom.{length-vertices, count-vertices, length-faces, extracted-meshed, few-vertices, few-faces}
@@ -41,7 +41,7 @@ module _ {ps : List Point} {st : Settings} {g : Grid} {level : Float} {vs : List
       ∙ length-tabulate _ _
       ∙ ap (λ (m : Lattice). 3 * (countX m * countY m * countZ m)) (sym same-lattice)
 
-  pub sized : Sized s0 edges l level vs fs
+  pub sized : Writable s0 edges l level vs fs
   unfolding vertexTotal faceTotal
   sized =
       record {
@@ -95,7 +95,7 @@ module _ {ps : List Point} {st : Settings} {g : Grid} {level : Float} {vs : List
       pub turned-meshed : Meshed vs1 fs2
       turned-meshed = subst (λ (f : List ℕ). Meshed vs1 f) (sym turned) (oriented-meshed g s0 vs1 fs1 made-meshed)
 
-      pub room : Room vs1 fs2 edges a b c
+      pub room : TrimRoom vs1 fs2 edges a b c
       room =
           let few-v = few-vertices s0 l level counts in
           let few-f = few-faces s0 l level counts in

@@ -15,7 +15,7 @@ use Rattle.points.specs.Box.{boundsOf, extentOf, sideOf, originOf}
 use Rattle.search.specs.Spacing.{spacingOf}
 use Rattle.settings.specs.declared.Settings.{Settings}
 use Rattle.cells.specs.Extraction.{countX, countY, countZ}
-use Rattle.numbering.specs.FirstPass.{Ready, Counted}
+use Rattle.numbering.specs.FirstPass.{Numberable, Counted}
 use Rattle.numbering.specs.declared.Totals.{Totals}
 use Rattle.surface.specs.Surface.{levelOf}
 use Rattle.levels.specs.declared.Problem.{Problem}

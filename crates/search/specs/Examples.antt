@@ -5,12 +5,12 @@ use mathlib.Core.List.{[], _∷_}
 use lib.IntN.{pos}
 use lib.Ieee.{Float, nan, inf, fin, ofBits, neg, add, sub, mul, lt, le, isNan}
 use Rattle.numbers.specs.Arithmetic.{rooted}
-use Rattle.lists.specs.EveryNth.{everyFrom}
+use Rattle.lists.specs.EveryNth.{strideFor, everyFrom}
 use Rattle.points.specs.declared.point.Point.{Point}
 use Rattle.search.specs.declared.brute.Least.the-variants.{Empty, One, Two}
 use Rattle.search.specs.declared.neighbours.Gap.the-variants.{Found, Nothing}
 use Rattle.search.specs.Search.{squareOf, sorted, nearestOf, anyOf, withinOf}
-use Rattle.search.specs.Spacing.{strideOf, gapAt, medianOf}
+use Rattle.search.specs.Spacing.{gapAt, medianOf}
 
 -- ---- to speak of
 
@@ -65,7 +65,7 @@ pub gaps :
 unfolding gapAt nearestOf sorted squareOf rooted isNan ofBits sub add neg mul lt
 gaps = (refl, refl, refl, refl)
 
-pub strides : (strideOf 999 ≡ 1) × (strideOf 1999 ≡ 1) × (strideOf 2000 ≡ 2) × (everyFrom 2 0 (placed O ∷ placed I ∷ placed II ∷ []) ≡ placed O ∷ placed II ∷ [])
+pub strides : (strideFor 1000 999 ≡ 1) × (strideFor 1000 1999 ≡ 1) × (strideFor 1000 2000 ≡ 2) × (everyFrom 2 0 (placed O ∷ placed I ∷ placed II ∷ []) ≡ placed O ∷ placed II ∷ [])
 strides = (refl, refl, refl, refl)
 
 pub ranks :

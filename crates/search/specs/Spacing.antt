@@ -1,23 +1,18 @@
 -- Document 01, "Spacing", in its order. Definitions only; assumes nothing.
 use mathlib.Core.Bool.{cond}
 use mathlib.Core.List.{List, [], _∷_, _++_}
-use Prim.Native.Nat.{ℕ, _/_, max}
+use Prim.Native.Nat.{ℕ, _/_}
 use lib.ListN.{length, getD}
 use lib.Ieee.{Float, binary64, ofBits, mul, lt}
 use Rattle.numbers.specs.Arithmetic.{largest}
 use Rattle.lists.specs.Lists.{zero32}
-use Rattle.lists.specs.EveryNth.{everyFrom}
+use Rattle.lists.specs.EveryNth.{strideFor, everyFrom}
 use Rattle.points.specs.declared.point.Point.{Point}
 use Rattle.search.specs.declared.brute.Least.{Least}
 use Rattle.search.specs.declared.brute.Least.the-variants.{Empty, One, Two}
 use Rattle.search.specs.declared.neighbours.Gap.{Gap}
 use Rattle.search.specs.declared.neighbours.Gap.the-variants.{Found, Nothing}
 use Rattle.search.specs.Search.{nearestOf, sorted}
-
--- ---- points 0, s, 2s.. with s = max(count/1000, 1)
-
-abbrev pub strideOf : ℕ → ℕ
-strideOf count = max (count / 1000) 1
 
 -- ---- each gives the first positive of its two smallest distances, itself included
 
@@ -52,7 +47,7 @@ gapsBy s ps l = gapsAmong ps (everyFrom s 0 l)
 unfoldable pub medianOf : List Float → Float
 medianOf l = getD (sorted lt l) (length l / 2) zero32
 
--- ---- the larger of that and extent·1e-6
+-- ---- points 0, s, 2s.. with s = max(count/1000, 1); then the larger of their median gap and extent·1e-6
 
 unfoldable pub spacingOf : List Point → Float → Float
-spacingOf ps extent = largest (medianOf (gapsBy (strideOf (length ps)) ps ps)) (mul binary64 extent (ofBits binary64 0x3EB0_C6F7_A0B5_ED8D))
+spacingOf ps extent = largest (medianOf (gapsBy (strideFor 1000 (length ps)) ps ps)) (mul binary64 extent (ofBits binary64 0x3EB0_C6F7_A0B5_ED8D))

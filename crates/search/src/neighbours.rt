@@ -8,9 +8,10 @@ ghost use Prim.Native.Nat.{_+_, _<_, _≤_};
 ghost use lib.Ieee as Ieee;
 ghost use lib.ListN.{length, take};
 ghost use Rattle.lists.specs.Lists.{zeros32};
+ghost use Rattle.lists.specs.EveryNth.{strideFor};
 ghost use Rattle.points.specs.Points.{given, usables};
 ghost use Rattle.search.specs.Search.{inserted, sorted};
-ghost use Rattle.search.specs.Spacing.{firstPositive, gapAt, gapsBy, strideOf, medianOf, spacingOf};
+ghost use Rattle.search.specs.Spacing.{firstPositive, gapAt, gapsBy, medianOf, spacingOf};
 ghost use Rattle.search.specs.Inner.{putGap, sizeOf, gapBy};
 
 // A distance, or none.
@@ -109,7 +110,7 @@ fn gaps(points: &[f32], list: &mut [f32], s: usize) -> usize
 
 // Every how many-th usable point is asked: about a thousand of them.
 fn stride(points: &[f32]) -> usize
-    ensures { λ r. ⌜ r ≡ strideOf (length (usables (now (points .entry)))) ⌝ }
+    ensures { λ r. ⌜ r ≡ strideFor 1000 (length (usables (now (points .entry)))) ⌝ }
 {
     let s = usable_count(points) / 1000;
     if s < 1 { 1 } else { s }

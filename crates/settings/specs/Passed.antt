@@ -79,7 +79,7 @@ unfolding anyShort
 all-fit n [] e = tt
 all-fit n (l ∷ ls) e = let t = neither (ltb l n) (anyShort n ls) e in (ltb-false l n (t .0), all-fit n ls (t .1))
 
-pub record Ready (xs : List Float) (st : Settings) (lent : Lengths) : Type 0 where
+pub record ChecksPassed (xs : List Float) (st : Settings) (lent : Lengths) : Type 0 where
   pub whole : length xs % numbersPerPoint ≡ 0
   pub few : given xs ≤ 1048576
   pub some : 0 < given xs
@@ -120,7 +120,7 @@ scratch-fits depth points lent e =
     let u = neither (ltb (lent .edges) (3 * n)) (ltb (lent .distances) points) (t .1) in
     (all-fit n (lent .grids) (t .0), ltb-false (lent .edges) (3 * n) (u .0), ltb-false (lent .distances) points (u .1))
 
-pub ready : (xs : List Float) (st : Settings) (lent : Lengths) → earlyVerdict xs st lent ≡ Pass → Ready xs st lent
+pub ready : (xs : List Float) (st : Settings) (lent : Lengths) → earlyVerdict xs st lent ≡ Pass → ChecksPassed xs st lent
 ready xs st lent e =
     let a = both-pass (pointSliceVerdict xs) (noPointsVerdict xs then depthVerdict (st .depth) then smoothingVerdict (st .smoothing) then scratchVerdict (st .depth) (given xs) lent) e in
     let b = both-pass (noPointsVerdict xs) (depthVerdict (st .depth) then smoothingVerdict (st .smoothing) then scratchVerdict (st .depth) (given xs) lent) (a .1) in

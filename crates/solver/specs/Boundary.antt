@@ -16,7 +16,7 @@ BoundaryIs g x v = (q : ℕ) → q < allNodes g → boundaryNode (g .nodes) q �
 abbrev pub ZeroOrNan : Float → Type 0
 ZeroOrNan v = (v ≡ zero32) ⊎ (v ≡ nan)
 
-pub record Alike (g : Grid) (x : List Float) : Type 0 where
+pub record BoundaryUniform (g : Grid) (x : List Float) : Type 0 where
   pub value : Float
   pub which : ZeroOrNan value
   pub all : BoundaryIs g x value

@@ -20,7 +20,7 @@ use Rattle.laplacian.specs.Laplacian.{applyAt, applied, stencilAt}
 use Rattle.vectors.specs.Vectors.{dotted, zero64, plusAt, minusAt, lessAt}
 use Rattle.numbers.specs.NanThrough.{nan-add, add-nan, mul-nan, nan-sub, sub-nan}
 use Rattle.solver.specs.Solver.{State, started, stops, alphaOf, next, steps, normOf, conjugate}
-use Rattle.solver.specs.Boundary.{BoundaryIs, ZeroOrNan, Alike}
+use Rattle.solver.specs.Boundary.{BoundaryIs, ZeroOrNan, BoundaryUniform}
 
 -- ---- at one node
 
@@ -78,7 +78,7 @@ module _ (g : Grid) where
       at-tabulate nan (allNodes g) (applyAt (g .nodes) x) q h
       ∙ ap (λ (b : Bool). cond b zero32 (stencilAt (g .nodes * g .nodes) (g .nodes) x q)) e
 
-  plus-alike : (c : Float) {a b : List Float} → Alike g a → Alike g b → Alike g (tabulate (allNodes g) (plusAt c a b))
+  plus-alike : (c : Float) {a b : List Float} → BoundaryUniform g a → BoundaryUniform g b → BoundaryUniform g (tabulate (allNodes g) (plusAt c a b))
   plus-alike c {a} {b} ha hb =
       record {
         value = add binary32 (ha .value) (mul binary32 c (hb .value));
@@ -86,7 +86,7 @@ module _ (g : Grid) where
         all = λ q h e. at-tabulate nan (allNodes g) (plusAt c a b) q h ∙ rw (ha .all q h e, hb .all q h e);
       }
 
-  minus-alike : (c : Float) {a : List Float} (x : List Float) → Alike g a → Alike g (tabulate (allNodes g) (minusAt c a (applied g x)))
+  minus-alike : (c : Float) {a : List Float} (x : List Float) → BoundaryUniform g a → BoundaryUniform g (tabulate (allNodes g) (minusAt c a (applied g x)))
   minus-alike c {a} x ha =
       record {
         value = sub binary32 (ha .value) (mul binary32 c zero32);
@@ -94,19 +94,19 @@ module _ (g : Grid) where
         all = λ q h e. at-tabulate nan (allNodes g) (minusAt c a (applied g x)) q h ∙ rw (ha .all q h e, applied-zero x q h e);
       }
 
-  zero-alike : {x : List Float} → BoundaryIs g x zero32 → Alike g x
+  zero-alike : {x : List Float} → BoundaryIs g x zero32 → BoundaryUniform g x
   zero-alike all = record { value = zero32; which = inl refl; all = all }
 
-  less-alike : (b x : List Float) → BoundaryIs g b zero32 → Alike g (tabulate (allNodes g) (lessAt b (applied g x)))
+  less-alike : (b x : List Float) → BoundaryIs g b zero32 → BoundaryUniform g (tabulate (allNodes g) (lessAt b (applied g x)))
   less-alike b x hb =
       zero-alike (λ q h e. at-tabulate nan (allNodes g) (lessAt b (applied g x)) q h ∙ rw (hb q h e, applied-zero x q h e) zero-less-zero)
 
   -- ---- step by step
 
   record Kept (s : State) : Type 0 where
-    x : Alike g (s .x)
-    r : Alike g (s .r)
-    p : Alike g (s .p)
+    x : BoundaryUniform g (s .x)
+    r : BoundaryUniform g (s .r)
+    p : BoundaryUniform g (s .p)
 
   next-kept : (s : State) → Kept s → Kept (next g s)
   unfolding next
@@ -131,13 +131,13 @@ module _ (g : Grid) where
 
   -- ---- the law
 
-  pub conjugate-alike : (tolerance : Float) (cap : ℕ) (b x : List Float) → BoundaryIs g b zero32 → BoundaryIs g x zero32 → Alike g (conjugate g tolerance cap b x)
+  pub conjugate-alike : (tolerance : Float) (cap : ℕ) (b x : List Float) → BoundaryIs g b zero32 → BoundaryIs g x zero32 → BoundaryUniform g (conjugate g tolerance cap b x)
   unfolding conjugate started
   conjugate-alike tolerance cap b x hb hx = go (eq (normOf g b) zero64)
     where
       first : Kept (started g b x)
       first = record { x = zero-alike hx; r = less-alike b x hb; p = less-alike b x hb }
 
-      go : (t : Bool) → Alike g (cond t x (steps g (mul binary64 tolerance (normOf g b)) cap (started g b x) .x))
+      go : (t : Bool) → BoundaryUniform g (cond t x (steps g (mul binary64 tolerance (normOf g b)) cap (started g b x) .x))
       go true = zero-alike hx
       go false = steps-kept (mul binary64 tolerance (normOf g b)) cap (started g b x) first .x

@@ -1,4 +1,4 @@
--- Words for this crate's contracts: what the slices are left with, what a step and a turn leave. Only `Left` stands in a contract that callers see, beside `Sized` of the crate `vectors`, and
+-- Words for this crate's contracts: what the slices are left with, what a step and a turn leave. Only `SolutionLeft` stands in a contract that callers see, beside `NodeSlices` of the crate `vectors`, and
 -- no definition rests on any of them. Assumes nothing.
 use mathlib.Core.Path.{_≡_}
 use mathlib.Core.Bool.{false}
@@ -16,7 +16,7 @@ use Rattle.solver.specs.declared.gradients.Turn.the-variants.{Done, On}
 use Rattle.solver.specs.Solver.{State, stops, next, steps}
 
 -- at exit: x is the solution, the other three are zeros
-pub record Left (g : Grid) (solution x r p ap : List Float) : Type 0 where
+pub record SolutionLeft (g : Grid) (solution x r p ap : List Float) : Type 0 where
   pub of-x : x ≡ solution
   pub of-r : r ≡ zeros32 (allNodes g)
   pub of-p : p ≡ zeros32 (allNodes g)

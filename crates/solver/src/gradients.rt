@@ -4,8 +4,8 @@ ghost use lib.ListN.{length};
 ghost use denote.Ref.{now};
 ghost use Rattle.grid.specs.Grid.{allNodes};
 ghost use Rattle.solver.specs.Solver.{started, steps, conjugate};
-ghost use Rattle.vectors.specs.Slices.{Sized};
-ghost use Rattle.solver.specs.Inner.{Left, Updated, Turned};
+ghost use Rattle.vectors.specs.Slices.{NodeSlices};
+ghost use Rattle.solver.specs.Inner.{SolutionLeft, Updated, Turned};
 use grid::Grid;
 use laplacian::apply;
 use vectors::advance;
@@ -31,7 +31,7 @@ fn update(
     alpha: f32,
     rr: f64,
 ) -> f64
-    requires { ⌜ Sized g (now x) (now r) (now p) (now ap) ⌝ }
+    requires { ⌜ NodeSlices g (now x) (now r) (now p) (now ap) ⌝ }
     ensures { λ t. ⌜ Updated g alpha rr (now (x .entry)) (now (r .entry)) (now (p .entry)) (now (ap .entry)) (now (x .exit)) (now (r .exit)) (now (p .exit)) t ⌝ }
 {
     let rr_new = advance(g, x, r, p, ap, alpha);
@@ -51,7 +51,7 @@ fn one_turn(
     rr: f64,
     limit: f64,
 ) -> Turn
-    requires { ⌜ Sized g (now x) (now r) (now p) (now ap) ⌝ }
+    requires { ⌜ NodeSlices g (now x) (now r) (now p) (now ap) ⌝ }
     ensures { λ t. ⌜ Turned g limit (record { x = now (x .entry); r = now (r .entry); p = now (p .entry); rr = rr }) t (now (x .exit)) (now (r .exit)) (now (p .exit)) ⌝ }
 {
     if arith::root64(rr) <= limit {
@@ -81,7 +81,7 @@ fn turns(
     limit: f64,
     cap: usize,
 )
-    requires { ⌜ Sized g (now x) (now r) (now p) (now ap) ⌝ }
+    requires { ⌜ NodeSlices g (now x) (now r) (now p) (now ap) ⌝ }
     ensures { λ _. ⌜ now (x .exit) ≡ steps g limit cap (record { x = now (x .entry); r = now (r .entry); p = now (p .entry); rr = start }) .x ⌝ }
 {
     let mut rr = start;
@@ -102,7 +102,7 @@ fn turns(
 
 // r = b - A x, p = r. It answers rr.
 fn begin(g: Grid, b: &[f32], x: &[f32], r: &mut [f32], p: &mut [f32], ap: &mut [f32]) -> f64
-    requires { ⌜ Sized g (now x) (now r) (now p) (now ap) ⌝ }
+    requires { ⌜ NodeSlices g (now x) (now r) (now p) (now ap) ⌝ }
     requires { ⌜ length (now b) ≡ allNodes g ⌝ }
     ensures { λ t. ⌜ record { x = now (x .entry); r = now (r .exit); p = now (p .exit); rr = t } ≡ started g (now (b .entry)) (now (x .entry)) ⌝ }
 {
@@ -123,7 +123,7 @@ fn descend(
     tolerance: f64,
     cap: usize,
 )
-    requires { ⌜ Sized g (now x) (now r) (now p) (now ap) ⌝ }
+    requires { ⌜ NodeSlices g (now x) (now r) (now p) (now ap) ⌝ }
     requires { ⌜ length (now b) ≡ allNodes g ⌝ }
     ensures { λ _. ⌜ now (x .exit) ≡ conjugate g tolerance cap (now (b .entry)) (now (x .entry)) ⌝ }
 {
@@ -146,9 +146,9 @@ pub fn conjugate_gradient(
     tolerance: f64,
     cap: usize,
 )
-    requires { ⌜ Sized g (now x) (now r) (now p) (now ap) ⌝ }
+    requires { ⌜ NodeSlices g (now x) (now r) (now p) (now ap) ⌝ }
     requires { ⌜ length (now b) ≡ allNodes g ⌝ }
-    ensures { λ _. ⌜ Left g (conjugate g tolerance cap (now (b .entry)) (now (x .entry))) (now (x .exit)) (now (r .exit)) (now (p .exit)) (now (ap .exit)) ⌝ }
+    ensures { λ _. ⌜ SolutionLeft g (conjugate g tolerance cap (now (b .entry)) (now (x .entry))) (now (x .exit)) (now (r .exit)) (now (p .exit)) (now (ap .exit)) ⌝ }
 {
     descend(g, b, x, r, p, ap, tolerance, cap);
     lists::clear_f32(r);

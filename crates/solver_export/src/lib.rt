@@ -7,12 +7,12 @@ ghost use lib.ListN.{length};
 ghost use Rattle.lists.specs.Lists.{tabulate};
 ghost use Rattle.grid.specs.Grid.{Sides};
 ghost use Rattle.points.specs.Points.{usables};
-ghost use Rattle.blur.specs.Blur.{offsetsOf, blurredAlong};
+ghost use Rattle.blur.specs.Blur.{offsetCount, blurredAlong};
 ghost use Rattle.laplacian.specs.Laplacian.{applyAt};
 ghost use Rattle.solver.specs.Solver.{conjugate};
 ghost use Rattle.solver.specs.Inner as level;
 ghost use Rattle.levels.specs.Levels.{nodesAt, solution};
-ghost use Rattle.levels.specs.Slices.{Sized, Left};
+ghost use Rattle.levels.specs.Slices.{LevelSlices, LevelsLeft};
 ghost use Rattle.solver_export.specs.Side.{gridOfSide};
 use grid::Grid;
 use levels::Problem;
@@ -29,7 +29,7 @@ pub extern "C" fn hoardmagpie_blur_axis(
 )
     requires { ⌜ Sides nodes ⌝ }
     requires { ⌜ (length (now v) ≡ nodes * nodes * nodes) × (length (now out) ≡ nodes * nodes * nodes) ⌝ }
-    requires { ⌜ (radius ≤ 18) × (length (now kernel) ≡ offsetsOf radius) ⌝ }
+    requires { ⌜ (radius ≤ 18) × (length (now kernel) ≡ offsetCount radius) ⌝ }
     ensures { λ _. ⌜ now (out .exit) ≡ blurredAlong axis nodes radius (now (kernel .entry)) (now (v .entry)) ⌝ }
 {
     let g = Grid {
@@ -101,9 +101,9 @@ pub extern "C" fn hoardmagpie_solve(
     ap: &mut [f32],
 )
     requires { ⌜ (1 ≤ depth) × (depth ≤ 8) ⌝ }
-    requires { ⌜ Sized (nodesAt depth) (now x) (now b) (now s) (now r) (now p) (now ap) ⌝ }
+    requires { ⌜ LevelSlices (nodesAt depth) (now x) (now b) (now s) (now r) (now p) (now ap) ⌝ }
     requires { ⌜ length (now before) ≡ nodesAt depth ⌝ }
-    ensures { λ _. ⌜ Left (nodesAt depth) (solution (record { origin = i ∷ j ∷ k ∷ []; size = size; spacing = spacing; smoothing = smoothing; cap = cap; tolerance = tolerance }) (usables (now (points .entry))) depth) (now (x .exit)) (now (before .exit)) (now (b .exit)) (now (s .exit)) (now (r .exit)) (now (p .exit)) (now (ap .exit)) ⌝ }
+    ensures { λ _. ⌜ LevelsLeft (nodesAt depth) (solution (record { origin = i ∷ j ∷ k ∷ []; size = size; spacing = spacing; smoothing = smoothing; cap = cap; tolerance = tolerance }) (usables (now (points .entry))) depth) (now (x .exit)) (now (before .exit)) (now (b .exit)) (now (s .exit)) (now (r .exit)) (now (p .exit)) (now (ap .exit)) ⌝ }
 {
     let problem = Problem {
         origin: [i, j, k],

@@ -11,14 +11,14 @@ use Rattle.numbers.specs.Arithmetic.{narrowed}
 use Rattle.grid.specs.declared.Grid.{Grid}
 use Rattle.grid.specs.Grid.{sampled}
 use Rattle.points.specs.declared.point.Point.{Point}
-use Rattle.points.specs.Points.{placeOf}
+use Rattle.points.specs.Points.{positionOf}
 use Rattle.orientation.specs.Orientation.{minusZero, vertexCount, vertexAt}
 use Rattle.surface.specs.declared.reach.VertexBox.{VertexBox}
 
 -- ---- level: mean of samples at usable points plus offset, narrowed
 
 abbrev pub plusSample : Grid → List Float → Float → Point → Float
-plusSample g values sum p = add binary64 sum (sampled g values (placeOf p))
+plusSample g values sum p = add binary64 sum (sampled g values (positionOf p))
 
 unfoldable pub levelOf : Grid → List Float → List Point → Float → Float
 levelOf g values ps offset = narrowed (add binary64 (div binary64 (foldl (plusSample g values) minusZero ps) (ofInt binary64 (pos (length ps)))) offset)

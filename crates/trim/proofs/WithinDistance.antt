@@ -18,7 +18,7 @@ use Rattle.points.specs.declared.point.Point.{Point}
 use Rattle.orientation.specs.Orientation.{vertexCount, faceCount, Meshed}
 use Rattle.settings.specs.declared.Trimming.the-variants.{Off, Within}
 use Rattle.trim.specs.declared.MeshSize.{MeshSize}
-use Rattle.trim.specs.Trim.{near, keptFaces, placesOf, trimmedFaces, trimmedVertices, Trimmed}
+use Rattle.trim.specs.Trim.{near, nearFaces, placesOf, trimmedFaces, trimmedVertices, Trimmed}
 use Rattle.trim.specs.Passes.{Slots, Front}
 use Rattle.trim.specs.TrimmedMesh.{length-places}
 use Rattle.trim.proofs.Places.{front-corners, used-below, used-few}
@@ -45,17 +45,17 @@ used-most fs = omega (arith, grow-most [] (corners fs), length-corners fs)
 
 module _ (ps : List Point) (vertices : List Float) (distance : Float) (numbers : List ℕ) where
   abbrev kept : List Face
-  kept = keptFaces ps vertices distance (faces numbers)
+  kept = nearFaces ps vertices distance (faces numbers)
 
   module _ (m : Meshed vertices numbers) where
     -- the used vertices are vertices, so there are no more of them
     pub within-below : (w : ℕ) → w < length (used kept) → getD (used kept) w 0 < vertexCount vertices
-    unfolding keptFaces
+    unfolding nearFaces
     within-below w h = used-below m (near ps vertices (mul binary32 distance distance)) (getD (used kept) w 0) (in-at (used kept) 0 w h)
 
     module _ {l table : List ℕ} {size : MeshSize} (front : Front kept l table size) (long : length l ≡ length numbers) where
       pub within-vertices : size .vertices ≤ vertexCount vertices
-      unfolding keptFaces
+      unfolding nearFaces
       within-vertices = omega (arith, front .slots .total, used-few m (near ps vertices (mul binary32 distance distance)))
 
       pub within-count : size .vertices ≤ 3 * size .faces

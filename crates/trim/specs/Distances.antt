@@ -8,11 +8,11 @@ use Rattle.closed.specs.Lists.{keep}
 use Rattle.closed.specs.Faces.{Face}
 use Rattle.points.specs.declared.point.Point.{Point}
 use Rattle.search.specs.Search.{squareOf, anyOf, withinOf}
-use Rattle.trim.specs.Trim.{near, keptFaces}
+use Rattle.trim.specs.Trim.{near, nearFaces}
 
 pub opposite-distance : (ps : List Point) (vertices : List Float) (distance : Float) (fs : List Face)
-    → keptFaces ps vertices (neg distance) fs ≡ keptFaces ps vertices distance fs
-unfolding keptFaces
+    → nearFaces ps vertices (neg distance) fs ≡ nearFaces ps vertices distance fs
+unfolding nearFaces
 opposite-distance ps vertices distance fs = ap (λ (limit : Float). keep (near ps vertices limit) fs) (mul-neg-both binary32 distance distance)
 
 -- ---- NaN
@@ -33,6 +33,6 @@ unfolding keep
 keep-none p h [] = refl
 keep-none p h (f ∷ fs) = ap (λ (b : Bool). cond b (f ∷ keep p fs) (keep p fs)) (h f) ∙ keep-none p h fs
 
-pub nan-keeps-nothing : (ps : List Point) (vertices : List Float) (fs : List Face) → keptFaces ps vertices nan fs ≡ []
-unfolding keptFaces mul
+pub nan-keeps-nothing : (ps : List Point) (vertices : List Float) (fs : List Face) → nearFaces ps vertices nan fs ≡ []
+unfolding nearFaces mul
 nan-keeps-nothing ps vertices fs = keep-none (near ps vertices nan) (λ f. none-within ps _) fs

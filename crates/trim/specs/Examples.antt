@@ -11,7 +11,7 @@ use Rattle.points.specs.declared.point.Point.{Point}
 use Rattle.search.specs.Search.{squareOf, anyOf, withinOf}
 use Rattle.settings.specs.declared.Trimming.the-variants.{Off, Within}
 use Rattle.orientation.specs.Orientation.{centreOf}
-use Rattle.trim.specs.Trim.{keptFaces, placesOf, trimmedFaces, trimmedVertices}
+use Rattle.trim.specs.Trim.{nearFaces, placesOf, trimmedFaces, trimmedVertices}
 
 abbrev O : Float
 O = fin false 0 (pos 0)
@@ -40,5 +40,5 @@ pub one-face :
     × (trimmedFaces (Within nan) points vertices tetrahedron ≡ [])
     × (trimmedVertices (Within nan) points vertices tetrahedron ≡ [])
     × (trimmedFaces Off points vertices tetrahedron ≡ tetrahedron)
-unfolding trimmedFaces trimmedVertices keptFaces keep withinOf anyOf squareOf centreOf placesOf mesh used dedup grow note member indexOf ofBits neg add sub mul div le
+unfolding trimmedFaces trimmedVertices nearFaces keep withinOf anyOf squareOf centreOf placesOf mesh used dedup grow note member indexOf ofBits neg add sub mul div le
 one-face = (refl, refl, refl, refl, refl, refl)

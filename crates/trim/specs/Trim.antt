@@ -23,8 +23,8 @@ abbrev pub near : List Point → List Float → Float → Face → Bool
 near ps vertices limit f = withinOf ps (centreOf vertices f) limit
 
 -- the limit is distance·distance in f32: so -0.5 acts as 0.5, and NaN keeps nothing
-unfoldable pub keptFaces : List Point → List Float → Float → List Face → List Face
-keptFaces ps vertices distance fs = keep (near ps vertices (mul binary32 distance distance)) fs
+unfoldable pub nearFaces : List Point → List Float → Float → List Face → List Face
+nearFaces ps vertices distance fs = keep (near ps vertices (mul binary32 distance distance)) fs
 
 -- ---- kept vertices are renumbered at first use: `used` and `mesh` of the crate `closed`
 
@@ -37,11 +37,11 @@ placesOf vertices (v ∷ l) = coordinate vertices v 0 ∷ coordinate vertices v 
 
 unfoldable pub trimmedFaces : Trimming → List Point → List Float → List Face → List Face
 trimmedFaces Off ps vertices fs = fs
-trimmedFaces (Within distance) ps vertices fs = mesh (keptFaces ps vertices distance fs)
+trimmedFaces (Within distance) ps vertices fs = mesh (nearFaces ps vertices distance fs)
 
 unfoldable pub trimmedVertices : Trimming → List Point → List Float → List Face → List Float
 trimmedVertices Off ps vertices fs = vertices
-trimmedVertices (Within distance) ps vertices fs = placesOf vertices (used (keptFaces ps vertices distance fs))
+trimmedVertices (Within distance) ps vertices fs = placesOf vertices (used (nearFaces ps vertices distance fs))
 
 -- ---- what a call leaves: the mesh at the front of its slices, zeros past it, and its size
 
@@ -53,7 +53,7 @@ pub record Trimmed (trimming : Trimming) (ps : List Point) (vertices : List Floa
 
 -- ---- the room that it needs: a mark a vertex, and a number a vertex in three slices of one length; vertices and faces that a u32 can count
 
-pub record Room (vertices : List Float) (numbers table : List ℕ) (a b c : List Float) : Type 0 where
+pub record TrimRoom (vertices : List Float) (numbers table : List ℕ) (a b c : List Float) : Type 0 where
   pub countable : length numbers < 2 ^ 32
   pub marks : vertexCount vertices ≤ length table
   pub second : length b ≡ length a

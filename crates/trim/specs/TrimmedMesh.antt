@@ -18,7 +18,7 @@ use Rattle.orientation.specs.Orientation.{Meshed}
 use Rattle.orientation.specs.FlatFaces.{meshed-corners}
 use Rattle.settings.specs.declared.Trimming.{Trimming}
 use Rattle.settings.specs.declared.Trimming.the-variants.{Off, Within}
-use Rattle.trim.specs.Trim.{near, keptFaces, placesOf, trimmedFaces, trimmedVertices}
+use Rattle.trim.specs.Trim.{near, nearFaces, placesOf, trimmedFaces, trimmedVertices}
 
 pub length-places : (vertices : List Float) (l : List ℕ) → length (placesOf vertices l) ≡ 3 * length l
 unfolding placesOf
@@ -30,7 +30,7 @@ pub trimmed-meshed : (trimming : Trimming) (ps : List Point) (vertices : List Fl
 unfolding trimmedVertices trimmedFaces
 trimmed-meshed Off ps vertices numbers m = subst (Meshed vertices) (sym (meshed-corners m)) m
 trimmed-meshed (Within distance) ps vertices numbers m =
-    let kept : List Face = keptFaces ps vertices distance (faces numbers) in
+    let kept : List Face = nearFaces ps vertices distance (faces numbers) in
     let long = length-places vertices (used kept) in
     record {
       places = omega arith;
@@ -39,8 +39,8 @@ trimmed-meshed (Within distance) ps vertices numbers m =
     }
 
 pub trimmed-apart : (trimming : Trimming) (ps : List Point) (vertices : List Float) (fs : List Face) → All Apart fs → All Apart (trimmedFaces trimming ps vertices fs)
-unfolding trimmedFaces keptFaces
+unfolding trimmedFaces nearFaces
 trimmed-apart Off ps vertices fs h = h
 trimmed-apart (Within distance) ps vertices fs h =
     let p = near ps vertices (mul binary32 distance distance) in
-    mesh-apart (keptFaces ps vertices distance fs) (all-keep Apart p fs h)
+    mesh-apart (nearFaces ps vertices distance fs) (all-keep Apart p fs h)

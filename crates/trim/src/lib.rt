@@ -13,7 +13,7 @@ ghost use Rattle.closed.specs.Faces as Flat;
 ghost use Rattle.points.specs.Points.{usables};
 ghost use Rattle.orientation.specs.Orientation.{vertexCount, Meshed};
 ghost use Rattle.settings.specs.declared.Trimming.the-variants.{Within};
-ghost use Rattle.trim.specs.Trim.{keptFaces, Trimmed, Room};
+ghost use Rattle.trim.specs.Trim.{nearFaces, Trimmed, TrimRoom};
 ghost use Rattle.trim.specs.Passes.{Front};
 use settings::Trimming;
 
@@ -33,7 +33,7 @@ fn keep_near(
 ) -> MeshSize
     requires { ⌜ Meshed (now vertices) (now faces) ⌝ }
     requires { ⌜ (length (now faces) < 2 ^ 32) × (vertexCount (now vertices) ≤ length (now table)) ⌝ }
-    ensures { λ r. ⌜ Front (keptFaces (usables (now (points .entry))) (now (vertices .entry)) distance (Flat.faces (now (faces .entry)))) (now (faces .exit)) (now (table .exit)) r ⌝ }
+    ensures { λ r. ⌜ Front (nearFaces (usables (now (points .entry))) (now (vertices .entry)) distance (Flat.faces (now (faces .entry)))) (now (faces .exit)) (now (table .exit)) r ⌝ }
 {
     let kept = keeping::keep_faces(points, distance * distance, vertices, faces);
     lists::clear_u32(table);
@@ -56,7 +56,7 @@ fn trim_within(
     c: &mut [f32],
 ) -> MeshSize
     requires { ⌜ Meshed (now vertices) (now faces) ⌝ }
-    requires { ⌜ Room (now vertices) (now faces) (now table) (now a) (now b) (now c) ⌝ }
+    requires { ⌜ TrimRoom (now vertices) (now faces) (now table) (now a) (now b) (now c) ⌝ }
     ensures { λ r. ⌜ Trimmed (Within distance) (usables (now (points .entry))) (now (vertices .entry)) (now (faces .entry)) r (now (vertices .exit)) (now (faces .exit)) ⌝ }
 {
     let size = keep_near(distance, points, vertices, faces, table);
@@ -80,7 +80,7 @@ fn cut(
     c: &mut [f32],
 ) -> MeshSize
     requires { ⌜ Meshed (now vertices) (now faces) ⌝ }
-    requires { ⌜ Room (now vertices) (now faces) (now table) (now a) (now b) (now c) ⌝ }
+    requires { ⌜ TrimRoom (now vertices) (now faces) (now table) (now a) (now b) (now c) ⌝ }
     ensures { λ r. ⌜ Trimmed trimming (usables (now (points .entry))) (now (vertices .entry)) (now (faces .entry)) r (now (vertices .exit)) (now (faces .exit)) ⌝ }
 {
     match trimming {
@@ -106,7 +106,7 @@ pub fn trim(
     c: &mut [f32],
 ) -> MeshSize
     requires { ⌜ Meshed (now vertices) (now faces) ⌝ }
-    requires { ⌜ Room (now vertices) (now faces) (now table) (now a) (now b) (now c) ⌝ }
+    requires { ⌜ TrimRoom (now vertices) (now faces) (now table) (now a) (now b) (now c) ⌝ }
     ensures { λ r. ⌜ Trimmed trimming (usables (now (points .entry))) (now (vertices .entry)) (now (faces .entry)) r (now (vertices .exit)) (now (faces .exit)) ⌝ }
     ensures { λ _. ⌜ now (table .exit) ≡ zerosU (length (now (table .entry))) ⌝ }
     ensures { λ _. ⌜ now (a .exit) ≡ zeros32 (length (now (a .entry))) ⌝ }

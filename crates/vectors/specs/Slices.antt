@@ -9,7 +9,7 @@ use Rattle.grid.specs.Grid.{Sides, allNodes}
 use Rattle.vectors.specs.Vectors.{dotted, plusAt, minusAt}
 
 -- the slices have one element a node
-pub record Sized (g : Grid) (x r p ap : List Float) : Type 0 where
+pub record NodeSlices (g : Grid) (x r p ap : List Float) : Type 0 where
   pub sides : Sides (g .nodes)
   pub of-x : length x ≡ allNodes g
   pub of-r : length r ≡ allNodes g

@@ -5,7 +5,7 @@ ghost use lib.ListN.{length};
 ghost use Rattle.lists.specs.Lists.{tabulate};
 ghost use Rattle.grid.specs.Grid.{allNodes};
 ghost use Rattle.vectors.specs.Vectors.{dotted, plusAt, lessAt};
-ghost use Rattle.vectors.specs.Slices.{Sized, Advanced};
+ghost use Rattle.vectors.specs.Slices.{NodeSlices, Advanced};
 use grid::Grid;
 
 // The dot product: f64, index order, from +0.0. The Rust's `dot` sums in any order.
@@ -39,7 +39,7 @@ pub fn squares(g: Grid, a: &[f32]) -> f64
 
 // x becomes x + alpha·p and r becomes r - alpha·ap; it answers dot(r, r) of the new r. One pass for all three: that sum must run in order, and the rest is done while it waits.
 pub fn advance(g: Grid, x: &mut [f32], r: &mut [f32], p: &[f32], ap: &[f32], alpha: f32) -> f64
-    requires { ⌜ Sized g (now x) (now r) (now p) (now ap) ⌝ }
+    requires { ⌜ NodeSlices g (now x) (now r) (now p) (now ap) ⌝ }
     ensures { λ t. ⌜ Advanced g alpha (now (x .entry)) (now (r .entry)) (now (p .entry)) (now (ap .entry)) (now (x .exit)) (now (r .exit)) t ⌝ }
 {
     let mut s = 0.0f64;

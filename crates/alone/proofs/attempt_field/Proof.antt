@@ -6,7 +6,7 @@ use lib.Seq.{length-take-le}
 use denote.Ref.{now}
 use Rattle.settings.proofs.Verdicts.{refuses}
 use Rattle.settings.specs.declared.Lengths.{Lengths}
-use Rattle.settings.specs.Passed.{Fit, Ready}
+use Rattle.settings.specs.Passed.{Fit, ChecksPassed}
 use Rattle.alone.specs.Outcome.{fieldLengths}
 use Rattle.alone.proofs.Results.{field-refused, field-ready, field-passed}
 use borrow.Author.Needs.{needs}
@@ -32,7 +32,7 @@ lent s =
     fieldLengths (now (x .s0)) (now (x .s1)) (now (x .s2)) (now (x .s3)) (now (x .s4)) (now (x .s5)) (now (x .s6)) (now (x .edges)) (now (x .distances))
 
 -- what the checks tell, and that the values have room
-ready : (c : tie.After-enum-told) → Ready (now (passed c .args .points)) (passed c .args .settings) (lent (passed c)) × (8 ^ passed c .args .settings .depth ≤ length (now (passed c .args .field)))
+ready : (c : tie.After-enum-told) → ChecksPassed (now (passed c .args .points)) (passed c .args .settings) (lent (passed c)) × (8 ^ passed c .args .settings .depth ≤ length (now (passed c .args .field)))
 ready c =
     let s = passed c in
     field-ready (now (s .args .points)) (s .args .settings) (lent s) (now (s .args .field)) (inspected c .inspect-field .ensures) (c .enum-told .given .1)

@@ -3,7 +3,7 @@ use mathlib.Core.Path.{sym, subst}
 use denote.Ref.{now}
 use borrow.Author.Needs.{needs}
 use Rattle.grid.specs.declared.Lattice.{Lattice}
-use Rattle.numbering.specs.FirstPass.{Ready, Counted}
+use Rattle.numbering.specs.FirstPass.{Numberable, Counted}
 use Rattle.extract_export.proofs.hoardmagpie_number_edges.Statement.{statement}
 use Rattle.extract_export.proofs.hoardmagpie_number_edges.Tie as tie
 
@@ -13,7 +13,7 @@ lattice-requires c κs = search needs
 number-edges-requires : tie.Need-number-edges-requires
 number-edges-requires c κs =
     let s = c .before .before .before .before in
-    subst (Ready (now (s .args .values)) (now (s .args .table))) (sym (c .before .lattice .ensures .0)) (s .pre .1)
+    subst (Numberable (now (s .args .values)) (now (s .args .table))) (sym (c .before .lattice .ensures .0)) (s .pre .1)
 
 same-length : tie.Need-same-length
 same-length c = search needs

@@ -3,7 +3,7 @@ use mathlib.Core.Path.{sym, subst}
 use denote.Ref.{now}
 use borrow.Author.Needs.{needs}
 use Rattle.grid.specs.declared.Lattice.{Lattice}
-use Rattle.extract.specs.SecondPass.{Sized, Mesh}
+use Rattle.extract.specs.SecondPass.{Writable, Mesh}
 use Rattle.extract_export.proofs.hoardmagpie_write_mesh.Statement.{statement}
 use Rattle.extract_export.proofs.hoardmagpie_write_mesh.Tie as tie
 
@@ -14,7 +14,7 @@ write-mesh-requires : tie.Need-write-mesh-requires
 write-mesh-requires c κs =
     let s = c .before .before .before .before .before .before .before in
     let a = s .args in
-    subst (λ (l : Lattice). Sized (now (a .values)) (now (a .table)) l (a .iso) (now (a .vertices)) (now (a .faces))) (sym (c .before .before .lattice .ensures .0)) (s .pre .1)
+    subst (λ (l : Lattice). Writable (now (a .values)) (now (a .table)) l (a .iso) (now (a .vertices)) (now (a .faces))) (sym (c .before .before .lattice .ensures .0)) (s .pre .1)
 
 same-length : tie.Need-same-length
 same-length c = search needs

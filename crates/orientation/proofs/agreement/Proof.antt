@@ -7,8 +7,8 @@ use borrow.Author.Needs.{needs}
 use lib.Ieee.{binary64, add}
 use denote.Ref.{now}
 use Rattle.closed.specs.Faces as Flat
-use Rattle.lists.specs.EveryNth.{everyFrom}
-use Rattle.orientation.specs.Orientation.{faceCount, minusZero, signAt, strideOf, plusSign, agreementOf}
+use Rattle.lists.specs.EveryNth.{strideFor, everyFrom}
+use Rattle.orientation.specs.Orientation.{faceCount, minusZero, signAt, plusSign, agreementOf}
 use Rattle.orientation.specs.FlatFaces.{noFace, face-read, meshed-faces, meshed-face}
 use Rattle.orientation.proofs.EveryOther.{Asking, asking-none, asking-more, asking-done}
 use Rattle.orientation.proofs.agreement.Statement.{statement}
@@ -57,7 +57,7 @@ returns c =
     let m = s .pre .1 .1 in
     let fs = Flat.faces (now (s .args .faces)) in
     asking-done (c .before .loop .inv) (omega (arith, meshed-faces m))
-    ∙ ap (λ (n : ℕ). foldl (plusSign (s .args .g) (now (s .args .values)) (now (s .args .vertices))) minusZero (everyFrom n 0 fs)) (c .before .before .stride .ensures ∙ ap strideOf (sym (meshed-faces m)))
+    ∙ ap (λ (n : ℕ). foldl (plusSign (s .args .g) (now (s .args .values)) (now (s .args .vertices))) minusZero (everyFrom n 0 fs)) (c .before .before .stride .ensures ∙ ap (strideFor 500) (sym (meshed-faces m)))
 
 pub agreement-spec : {M : Type 1} → statement M
 agreement-spec =

@@ -7,7 +7,7 @@ use lib.ListN.{length}
 use lib.Seq.{length-take-le}
 use denote.Ref.{now}
 use Rattle.settings.specs.declared.Lengths.{Lengths}
-use Rattle.settings.specs.Passed.{Fit, Ready}
+use Rattle.settings.specs.Passed.{Fit, ChecksPassed}
 use Rattle.settings.specs.Refusals.{lengthsOf}
 use Rattle.poisson.proofs.Finishing.{first-refused, first-ready, first-passed}
 use borrow.Author.Needs.{needs}
@@ -29,13 +29,13 @@ lent c =
     let x = c .args in
     lengthsOf (now (x .vertices)) (now (x .faces)) (now (x .s0)) (now (x .s1)) (now (x .s2)) (now (x .s3)) (now (x .s4)) (now (x .s5)) (now (x .s6)) (now (x .edges)) (now (x .distances))
 
-at-told : (c : tie.After-enum-told) → Ready (now (entry (c .before .before) .args .points)) (entry (c .before .before) .args .settings) (lent (entry (c .before .before)))
+at-told : (c : tie.After-enum-told) → ChecksPassed (now (entry (c .before .before) .args .points)) (entry (c .before .before) .args .settings) (lent (entry (c .before .before)))
 at-told c =
     let d = c .before .before in
     let s = entry d in
     first-ready (now (s .args .points)) (s .args .settings) (lent s) (d .inspect .ensures) (c .enum-told .given .1)
 
-at-nodes : (c : tie.After-nodes) → Ready (now (entry (passed c) .args .points)) (entry (passed c) .args .settings) (lent (entry (passed c)))
+at-nodes : (c : tie.After-nodes) → ChecksPassed (now (entry (passed c) .args .points)) (entry (passed c) .args .settings) (lent (entry (passed c)))
 at-nodes c = at-told (c .before)
 
 -- each of the seven slices has room for n values, and the edge table for 3n numbers

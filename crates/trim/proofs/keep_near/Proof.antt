@@ -9,7 +9,7 @@ use Rattle.lists.specs.Lists.{zerosU}
 use Rattle.closed.specs.Faces.{Face, faces}
 use Rattle.closed.specs.Numbering.{used, mesh}
 use Rattle.points.specs.Points.{usables}
-use Rattle.trim.specs.Trim.{near, keptFaces}
+use Rattle.trim.specs.Trim.{near, nearFaces}
 use Rattle.trim.specs.Passes.{Slots}
 use Rattle.trim.proofs.Places.{kept-few, front-below}
 use borrow.Author.Needs.{needs}
@@ -48,7 +48,7 @@ same-length-2 : tie.Need-same-length-2
 same-length-2 c = search needs
 
 returns : tie.Need-returns
-unfolding keptFaces
+unfolding nearFaces
 returns c =
     let kept = c .before .before .before .before .before .before .before .before .before .before .before .before .before .keep-faces in
     let number = c .before .before .before .before .number in

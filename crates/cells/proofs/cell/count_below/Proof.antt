@@ -8,14 +8,14 @@ use Rattle.closed.specs.Lists.{bit}
 use Rattle.closed.specs.Sums.{sum-zero, sum-one-more}
 use Rattle.lists.specs.Lists.{at}
 use Rattle.cells.specs.Extraction.{isBelow}
-use Rattle.cells.specs.CellWords.{belowIn}
+use Rattle.cells.specs.CellWords.{belowCount}
 use Rattle.cells.specs.Plain.{bits-most}
 use borrow.Author.Needs.{needs}
 use Rattle.cells.proofs.cell.count_below.Statement.{statement}
 use Rattle.cells.proofs.cell.count_below.Tie as tie
 
 abbrev Inv-loop : tie.InvT-loop
-Inv-loop values first nz iso count₀ k₀ count k = (count ≡ belowIn values k iso (first .0)) × (k ≤ nz)
+Inv-loop values first nz iso count₀ k₀ count k = (count ≡ belowCount values k iso (first .0)) × (k ≤ nz)
 
 abbrev μ-loop : tie.MeasureT-loop
 μ-loop values first nz iso count₀ k₀ count k = nz - k
@@ -81,7 +81,7 @@ returns c =
     let a = entry (c .before) .args in
     let l = c .before .loop in
     let e : l .k ≡ a .nz = omega (arith, l .inv .1, c .loop-test .left) in
-    l .inv .0 ∙ ap (λ (k : ℕ). belowIn (a .values .now) k (a .iso) (a .first .0)) e
+    l .inv .0 ∙ ap (λ (k : ℕ). belowCount (a .values .now) k (a .iso) (a .first .0)) e
 
 pub count-below-spec : {M : Type 1} → statement M
 count-below-spec =

@@ -5,7 +5,7 @@ use Prim.Native.Nat.{ℕ, _+_, _*_, _≤_}
 use native.Mathlib.Omega.{arith}
 use borrow.Author.Tests.{ne-eqb}
 use lib.Dec.{eqb}
-use Rattle.cells.specs.CellWords.{belowIn, lineBelow}
+use Rattle.cells.specs.CellWords.{belowCount, lineBelow}
 use Rattle.cells.specs.Plain.{row-most}
 use borrow.Author.Needs.{needs}
 use Rattle.cells.proofs.cell.is_plain.Statement.{statement}
@@ -31,7 +31,7 @@ start c = entry (one (two c))
 -- ---- what is known there
 
 abbrev row : tie.Start → ℕ → ℕ
-row s n = belowIn (s .args .values .now) (s .args .nz) (s .args .iso) n
+row s n = belowCount (s .args .values .now) (s .args .nz) (s .args .iso) n
 
 -- a row has no more nodes than there are
 few : (s : tie.Start) (n r : ℕ) → r ≡ row s n → r ≤ 16777216

@@ -40,10 +40,10 @@ abbrev line : tie.Start Inv-loop μ-loop → ℕ → List Face
 line s n = lineFaces (s .args .values .now) (countY (s .args .t5)) (countZ (s .args .t5)) (s .args .iso) n (countZ (s .args .t5) - 1)
 
 -- the line from node n on has both its rows of nodes, and the two of the next plane
-abbrev Inside : tie.Start Inv-loop μ-loop → ℕ → Type 0
-Inside s n = n + countY (s .args .t5) * countZ (s .args .t5) + (countZ (s .args .t5) + countZ (s .args .t5)) ≤ length (s .args .values .now)
+abbrev CornersIn : tie.Start Inv-loop μ-loop → ℕ → Type 0
+CornersIn s n = n + countY (s .args .t5) * countZ (s .args .t5) + (countZ (s .args .t5) + countZ (s .args .t5)) ≤ length (s .args .values .now)
 
-inside : (c : tie.In-loop Inv-loop μ-loop) → Inside (entry (c .before)) (entry (c .before) .args .from .0 + c .before .loop .j * countZ (entry (c .before) .args .t5))
+inside : (c : tie.In-loop Inv-loop μ-loop) → CornersIn (entry (c .before)) (entry (c .before) .args .from .0 + c .before .loop .j * countZ (entry (c .before) .args .t5))
 inside c =
     let j = c .before .loop .j in
     let s = entry (c .before) in

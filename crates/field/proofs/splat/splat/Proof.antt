@@ -8,7 +8,7 @@ use lib.Ieee.{Float}
 use denote.Ref.{now}
 use Rattle.lists.specs.Lists.{zeros32}
 use Rattle.points.specs.Points.{usableOf}
-use Rattle.points.specs.UsableLoop.{Folded, folded-none, folded-more, folded-done}
+use Rattle.points.specs.UsableLoop.{FoldedUsable, folded-none, folded-more, folded-done}
 use Rattle.field.specs.Field.{pointAdded, splatted}
 use Rattle.field.proofs.Corners.{length-usable}
 use borrow.Author.Needs.{needs}
@@ -18,7 +18,7 @@ use Rattle.field.proofs.splat.splat.Tie as tie
 use Rattle.grid.specs.Grid.{allNodes}
 
 abbrev Inv-loop : tie.InvT-loop
-Inv-loop g points a v₀ all i₀ v i = Folded (pointAdded g a) (zeros32 (allNodes g)) points v i × (length v ≡ allNodes g)
+Inv-loop g points a v₀ all i₀ v i = FoldedUsable (pointAdded g a) (zeros32 (allNodes g)) points v i × (length v ≡ allNodes g)
 
 abbrev μ-loop : tie.MeasureT-loop
 μ-loop g points a v₀ all i₀ v i = all - i
@@ -34,7 +34,7 @@ loop-holds c =
     let s = c .before .before .before .before .before .before .before in
     let g = s .args .g in
     let zeros = c .before .before .before .clear-f32 .ensures ∙ ap zeros32 (s .pre .1) in
-    (subst (λ (v : List Float). Folded (pointAdded g (s .args .a)) (zeros32 (allNodes g)) (now (s .args .points)) v 0) (sym zeros) folded-none, ap length zeros ∙ length-replicate _ _)
+    (subst (λ (v : List Float). FoldedUsable (pointAdded g (s .args .a)) (zeros32 (allNodes g)) (now (s .args .points)) v 0) (sym zeros) folded-none, ap length zeros ∙ length-replicate _ _)
 
 read-requires : tie.Need-read-requires Inv-loop μ-loop
 read-requires c κs = rw (← c .before .before .before .given .ensures) (omega arith)

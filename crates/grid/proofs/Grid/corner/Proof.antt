@@ -1,7 +1,7 @@
 -- `grid::Grid::corner` meets its contract: an offset is 0 or 1, and the cell's counts leave room for 1. Assumes nothing.
 use mathlib.Core.Path.{_∙_}
 use native.Mathlib.Omega.{arith}
-use Rattle.grid.specs.Grid.{cornerAt}
+use Rattle.grid.specs.Grid.{cellCorner}
 use Rattle.grid.specs.Cells.{corner-in}
 use borrow.Author.Needs.{needs}
 use Rattle.grid.proofs.Grid.corner.Statement.{statement}
@@ -41,7 +41,7 @@ node-requires : tie.Need-node-requires
 node-requires c κs = let s = c .before .before .before .before in (s .pre .0, corner-in (s .args .c) (s .pre .1) (c .before .before .before .offsets .ensures))
 
 returns : tie.Need-returns
-unfolding cornerAt
+unfolding cellCorner
 returns c = c .node .ensures ∙ rw (c .before .before .before .before .offsets .ensures)
 
 pub corner-spec : {M : Type 1} → statement M

@@ -2,11 +2,11 @@
 use mathlib.Core.Path.{_≡_, refl}
 use Prim.Native.Nat.{ℕ, zero, suc}
 use lib.Ieee.{Float}
-use Rattle.grid.specs.Grid.{sideOf}
+use Rattle.grid.specs.Grid.{shareAlong}
 use Rattle.grid.proofs.trilinear.side.Statement.{statement}
 use Rattle.grid.proofs.trilinear.side.Tie as tie
 
-far : (d : ℕ) (t : Float) → (d ≡ 0 → ⊥) → t ≡ sideOf d t
+far : (d : ℕ) (t : Float) → (d ≡ 0 → ⊥) → t ≡ shareAlong d t
 far zero t h = absurd (h refl)
 far (suc d) t h = refl
 

@@ -6,14 +6,14 @@ use lib.ListN.{length, take}
 use denote.Ref.{now}
 use Rattle.points.specs.Points.{usables}
 use Rattle.levels.specs.Levels.{nodesAt, risen}
-use Rattle.levels.specs.Slices.{Sized}
+use Rattle.levels.specs.Slices.{LevelSlices}
 use Rattle.levels.proofs.Fronts.{nodes-mono}
 use Rattle.levels.proofs.OneAfterOther.{sized-by, rise-more, rise-done}
 use Rattle.levels.proofs.rising.rise.Statement.{statement}
 use Rattle.levels.proofs.rising.rise.Tie as tie
 
 abbrev Inv-loop : tie.InvT-loop
-Inv-loop problem points first depth x₀ before₀ b₀ s₀ r₀ p₀ ap₀ d₀ x before b s r p ap d = (take (nodesAt d) x ≡ risen problem (usables points) first (d - first)) × (first ≤ d) × (d ≤ depth) × Sized (nodesAt depth) x b s r p ap × (length before ≡ nodesAt depth)
+Inv-loop problem points first depth x₀ before₀ b₀ s₀ r₀ p₀ ap₀ d₀ x before b s r p ap d = (take (nodesAt d) x ≡ risen problem (usables points) first (d - first)) × (first ≤ d) × (d ≤ depth) × LevelSlices (nodesAt depth) x b s r p ap × (length before ≡ nodesAt depth)
 
 abbrev μ-loop : tie.MeasureT-loop
 μ-loop problem points first depth x₀ before₀ b₀ s₀ r₀ p₀ ap₀ d₀ x before b s r p ap d = depth - d

@@ -59,10 +59,10 @@ faces-of s n = facesAt (s .args .values .now) (s .args .ny) (s .args .nz) (s .ar
 abbrev node : tie.At-loop Inv-loop μ-loop → ℕ
 node c = entry c .args .from .0 + c .loop .k
 
-abbrev Inside : tie.Start Inv-loop μ-loop → ℕ → Type 0
-Inside s n = n + s .args .ny * s .args .nz + s .args .nz + 1 < length (s .args .values .now)
+abbrev CornersIn : tie.Start Inv-loop μ-loop → ℕ → Type 0
+CornersIn s n = n + s .args .ny * s .args .nz + s .args .nz + 1 < length (s .args .values .now)
 
-inside : (c : tie.In-loop Inv-loop μ-loop) → Inside (entry (c .before)) (node (c .before))
+inside : (c : tie.In-loop Inv-loop μ-loop) → CornersIn (entry (c .before)) (node (c .before))
 inside c = omega (arith, entry (c .before) .pre .0 .inside, c .loop-test .taken)
 
 -- its first edge, its far side, its case and its faces

@@ -39,10 +39,10 @@ abbrev line : tie.Start Inv-loop μ-loop → ℕ → List Face
 line s n = lineFaces (s .args .values .now) (s .args .ny) (s .args .nz) (s .args .iso) n (s .args .nz - 1)
 
 -- the line from node n on has both its rows of nodes, and the two of the next plane
-abbrev Inside : tie.Start Inv-loop μ-loop → ℕ → Type 0
-Inside s n = n + s .args .ny * s .args .nz + s .args .nz + s .args .nz ≤ length (s .args .values .now)
+abbrev CornersIn : tie.Start Inv-loop μ-loop → ℕ → Type 0
+CornersIn s n = n + s .args .ny * s .args .nz + s .args .nz + s .args .nz ≤ length (s .args .values .now)
 
-inside : (c : tie.In-loop Inv-loop μ-loop) → Inside (entry (c .before)) (entry (c .before) .args .from .0 + c .before .loop .j * entry (c .before) .args .nz)
+inside : (c : tie.In-loop Inv-loop μ-loop) → CornersIn (entry (c .before)) (entry (c .before) .args .from .0 + c .before .loop .j * entry (c .before) .args .nz)
 inside c =
     let j = c .before .loop .j in
     let s = entry (c .before) in

@@ -12,7 +12,7 @@ use Rattle.search.specs.declared.brute.Least.the-variants.{Empty}
 use Rattle.points.specs.Points.{given, usableOf, usables}
 use Rattle.search.specs.Search.{squareOf}
 use Rattle.search.specs.Inner.{leastWith, leastMap}
-use Rattle.points.specs.UsableLoop.{Folded, folded-none, folded-more, folded-done}
+use Rattle.points.specs.UsableLoop.{FoldedUsable, folded-none, folded-more, folded-done}
 use Rattle.points.specs.UsableFinite.{all-usable}
 use Rattle.search.proofs.NearestRoots.{nearest-root}
 use borrow.Author.Needs.{needs}
@@ -20,7 +20,7 @@ use Rattle.search.proofs.brute.nearest.Statement.{statement}
 use Rattle.search.proofs.brute.nearest.Tie as tie
 
 abbrev Inv-loop : tie.InvT-loop
-Inv-loop points query all least₀ i₀ least i = Folded (λ (s : Least) (p : Point). leastWith s (squareOf query p)) Empty points least i
+Inv-loop points query all least₀ i₀ least i = FoldedUsable (λ (s : Least) (p : Point). leastWith s (squareOf query p)) Empty points least i
 
 abbrev μ-loop : tie.MeasureT-loop
 μ-loop points query all least₀ i₀ least i = all - i

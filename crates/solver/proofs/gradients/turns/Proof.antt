@@ -3,14 +3,14 @@ use mathlib.Core.Path.{_≡_, sym, ap, _∙_}
 use Prim.Native.Nat.{_-_, _≤_}
 use native.Mathlib.Omega.{arith}
 use Rattle.solver.specs.Solver.{State, steps}
-use Rattle.vectors.specs.Slices.{Sized}
+use Rattle.vectors.specs.Slices.{NodeSlices}
 use Rattle.solver.proofs.Steps.{turns-done, turns-on, turns-end}
 use borrow.Author.Needs.{needs}
 use Rattle.solver.proofs.gradients.turns.Statement.{statement}
 use Rattle.solver.proofs.gradients.turns.Tie as tie
 
 abbrev Inv-loop : tie.InvT-loop
-Inv-loop g x₀ r₀ p₀ ap₀ start limit cap rr₀ i₀ x r p ap rr i = (steps g limit (cap - i) (record { x = x; r = r; p = p; rr = rr }) ≡ steps g limit cap (record { x = x₀; r = r₀; p = p₀; rr = rr₀ })) × (i ≤ cap) × Sized g x r p ap
+Inv-loop g x₀ r₀ p₀ ap₀ start limit cap rr₀ i₀ x r p ap rr i = (steps g limit (cap - i) (record { x = x; r = r; p = p; rr = rr }) ≡ steps g limit cap (record { x = x₀; r = r₀; p = p₀; rr = rr₀ })) × (i ≤ cap) × NodeSlices g x r p ap
 
 abbrev μ-loop : tie.MeasureT-loop
 μ-loop g x₀ r₀ p₀ ap₀ start limit cap rr₀ i₀ x r p ap rr i = cap - i
@@ -31,7 +31,7 @@ abbrev ended : tie.After-enum-told Inv-loop μ-loop → tie.After-one-turn Inv-l
 ended c = c .before .before .before .before .before .before .before .before .before .before
 
 sized : (c : tie.After-one-turn Inv-loop μ-loop)
-    → Sized (entry (inside c) .args .g) (c .one-turn .last .1 .0) (c .one-turn .last .1 .1 .0) (c .one-turn .last .1 .1 .1 .0) (c .one-turn .last .1 .1 .1 .1 .0)
+    → NodeSlices (entry (inside c) .args .g) (c .one-turn .last .1 .0) (c .one-turn .last .1 .1 .0) (c .one-turn .last .1 .1 .1 .0) (c .one-turn .last .1 .1 .1 .1 .0)
 sized c =
     let k = c .one-turn .kept .1 in
     let size = inside c .before .loop .inv .2 in

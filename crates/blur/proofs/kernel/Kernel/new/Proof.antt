@@ -6,17 +6,17 @@ use lib.ListN.{length, take, replicate, length-set, length-replicate}
 use lib.Ieee.{Float}
 use Rattle.lists.specs.Lists.{tabulate, zero32}
 use Rattle.lists.specs.Prefix.{prefix-none, prefix-more}
-use Rattle.blur.specs.Blur.{weightOf, reachOf, offsetsOf, kernelOf}
+use Rattle.blur.specs.Blur.{weightOf, reachOf, offsetCount, kernelOf}
 use borrow.Author.Needs.{needs}
 use native.Mathlib.Omega.{arith}
 use Rattle.blur.proofs.kernel.Kernel.new.Statement.{statement}
 use Rattle.blur.proofs.kernel.Kernel.new.Tie as tie
 
 abbrev Inv-loop : tie.InvT-loop
-Inv-loop sigma radius weights₀ t₀ weights t = (take t weights ≡ tabulate t (λ k. weightOf sigma (reachOf radius k))) × (length weights ≡ 37) × (t ≤ offsetsOf radius)
+Inv-loop sigma radius weights₀ t₀ weights t = (take t weights ≡ tabulate t (λ k. weightOf sigma (reachOf radius k))) × (length weights ≡ 37) × (t ≤ offsetCount radius)
 
 abbrev μ-loop : tie.MeasureT-loop
-μ-loop sigma radius weights₀ t₀ weights t = offsetsOf radius - t
+μ-loop sigma radius weights₀ t₀ weights t = offsetCount radius - t
 
 radius-of-requires : tie.Need-radius-of-requires Inv-loop μ-loop
 radius-of-requires c κs = search needs
@@ -61,14 +61,14 @@ returns c =
     let s = q .before .before .args .sigma in
     let r = q .before .radius-of .result in
     let e = q .before .radius-of .ensures in
-    let all : q .loop .t ≡ offsetsOf r = omega arith in
+    let all : q .loop .t ≡ offsetCount r = omega arith in
     record {
       reach = e;
       most = omega arith;
       room = q .loop .inv .1;
       all =
           subst (λ (m : ℕ). take m (q .loop .weights) ≡ tabulate m (λ k. weightOf s (reachOf r k))) all (q .loop .inv .0)
-          ∙ ap (λ (m : ℕ). tabulate (offsetsOf m) (λ k. weightOf s (reachOf m k))) e;
+          ∙ ap (λ (m : ℕ). tabulate (offsetCount m) (λ k. weightOf s (reachOf m k))) e;
     }
 
 pub new-spec : {M : Type 1} → statement M

@@ -6,13 +6,13 @@ use native.Mathlib.Omega.{arith}
 use lib.Ieee.{ofBits, div, neg}
 use Rattle.points.specs.Points.{given}
 use Rattle.points.specs.Box.{reached, noBounds, boundsOf}
-use Rattle.points.specs.UsableLoop.{Folded, folded-none, folded-used, folded-skipped, folded-done}
+use Rattle.points.specs.UsableLoop.{FoldedUsable, folded-none, folded-used, folded-skipped, folded-done}
 use borrow.Author.Needs.{needs}
 use Rattle.points.proofs.bounds.Bounds.of.Statement.{statement}
 use Rattle.points.proofs.bounds.Bounds.of.Tie as tie
 
 abbrev Inv-loop : tie.InvT-loop
-Inv-loop points all far b₀ i₀ b i = Folded reached noBounds points b i
+Inv-loop points all far b₀ i₀ b i = FoldedUsable reached noBounds points b i
 
 abbrev μ-loop : tie.MeasureT-loop
 μ-loop points all far b₀ i₀ b i = all - i

@@ -1,5 +1,5 @@
 -- `points::Bounds::reach` meets its contract: the lesser and the larger of each pair. Assumes nothing.
-use Rattle.points.specs.Points.{placeOf}
+use Rattle.points.specs.Points.{positionOf}
 use Rattle.points.specs.Box.{reached}
 use borrow.Author.Needs.{needs}
 use Rattle.points.proofs.bounds.Bounds.reach.Statement.{statement}
@@ -63,7 +63,7 @@ largest-requires-3 : tie.Need-largest-requires-3
 largest-requires-3 c κs = search needs
 
 returns : tie.Need-returns
-unfolding reached placeOf
+unfolding reached positionOf
 returns c = rw (c .largest3 .ensures, c .before .before .largest2 .ensures, c .before .before .before .before .largest .ensures, c .before .before .before .before .before .before .least3 .ensures, c .before .before .before .before .before .before .before .before .least2 .ensures, c .before .before .before .before .before .before .before .before .before .before .least .ensures, c .before .before .before .before .before .before .before .before .before .before .before .before .place .ensures)
 
 pub reach-spec : {M : Type 1} → statement M

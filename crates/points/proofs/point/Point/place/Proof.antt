@@ -1,5 +1,5 @@
 -- `points::Point::place` meets its contract: widening changes no value. Assumes nothing.
-use Rattle.points.specs.Points.{placeOf}
+use Rattle.points.specs.Points.{positionOf}
 use borrow.Author.Needs.{needs}
 use Rattle.points.proofs.point.Point.place.Statement.{statement}
 use Rattle.points.proofs.point.Point.place.Tie as tie
@@ -23,7 +23,7 @@ widen-requires-3 : tie.Need-widen-requires-3
 widen-requires-3 c κs = search needs
 
 returns : tie.Need-returns
-unfolding placeOf
+unfolding positionOf
 returns c = rw (c .widen3 .ensures, c .before .before .widen2 .ensures, c .before .before .before .before .widen .ensures)
 
 pub place-spec : {M : Type 1} → statement M
