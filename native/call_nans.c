@@ -5,7 +5,7 @@ typedef unsigned int u32;
 typedef unsigned long long u64;
 int printf(const char *, ...);
 
-enum { POINTS = 54, DEPTH = 4, N = 4096 };
+enum { POINTS = 54, DEPTH = 3, N = 512 };
 
 u32 poisson_reconstruct(const u32 *points, u64, u32 depth, float smoothing, float offset, u32 trimming, float distance, u64 iterations, double tolerance,
                         u32 *vertices, u64, u32 *faces, u64, u32 *s0, u64, u32 *s1, u64, u32 *s2, u64, u32 *s3, u64, u32 *s4, u64, u32 *s5, u64, u32 *s6, u64,
