@@ -1,5 +1,6 @@
 //! The program: `hoardmagpie close SCAN -o MESH`.
 mod card;
+mod elapsed;
 mod words;
 
 use hoardmagpie::{mesh_file, reconstruct, scan};
@@ -54,7 +55,10 @@ fn run(words: &[OsString]) -> Result<String, Failure> {
         return usage("nothing to do");
     };
     match command.to_string_lossy().as_ref() {
-        "close" => close(&read_job(rest)?),
+        "close" => {
+            let job = read_job(rest)?;
+            elapsed::shown(|| close(&job))
+        }
         "help" | "--help" | "-h" => Ok(help()),
         other => usage(format!("`{other}` is no command")),
     }
