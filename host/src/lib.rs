@@ -29,13 +29,14 @@
 //! To build it, run `scripts/native-archive capi` in the repository's root, which proves the library and leaves its archive, then
 //! `cargo build --offline --release` in `host`; `scripts/host-tests` tests it, and `scripts/close-example` closes a scan.
 //!
-//! [`scan`] reads scans from PLY and text, [`mesh_file`] writes meshes as PLY and OBJ, and [`volume`] measures a closed mesh;
-//! the program `hoardmagpie` is made of these. None of them is proved.
+//! [`scan`] reads scans from PLY and text, [`mesh_file`] writes meshes as PLY and OBJ, [`volume`] measures a closed mesh, and
+//! [`picture`] draws; the program `hoardmagpie` is made of these. None of them is proved.
 #![deny(missing_docs)]
 
 mod exported;
 pub mod lent;
 pub mod mesh_file;
+pub mod picture;
 mod refusal;
 pub mod scan;
 mod settings;

@@ -28,6 +28,9 @@ pub fn card(job: &Job, given: usize, mesh: &Mesh, time: Duration) -> String {
     }
     line("time", format!("{:.2} s", time.as_secs_f64()));
     line("mesh", job.mesh.display().to_string());
+    if let Some(picture) = &job.picture {
+        line("picture", picture.display().to_string());
+    }
     text
 }
 
@@ -53,8 +56,10 @@ fn corner(c: [f32; 3]) -> String {
 /// How much the solid holds. A sign below zero is told in words.
 fn volume_words(volume: Result<f64, NoVolume>) -> String {
     match volume {
-        Ok(v) if v < 0.0 => format!("{} cubic units, and the faces look inward ({UNPROVED})", seven_digits(-v)),
-        Ok(v) => format!("{} cubic units ({UNPROVED})", seven_digits(v)),
+        Ok(v) => {
+            let inward = if v < 0.0 { ", and the faces look inward" } else { "" };
+            format!("{} cubic units{inward} ({UNPROVED})", seven_digits(v.abs()))
+        }
         Err(why) => format!("left out: {why}"),
     }
 }
@@ -88,6 +93,7 @@ mod tests {
     fn volumes_and_masses_in_words() {
         let end = "(computed by the host, not proved)";
         assert_eq!(volume_words(Ok(2.5)), format!("2.5 cubic units {end}"));
+        assert_eq!(volume_words(Ok(-0.0)), format!("0 cubic units {end}"));
         assert_eq!(volume_words(Ok(-2.5)), format!("2.5 cubic units, and the faces look inward {end}"));
         assert_eq!(mass_words(Ok(-2.5), 0.5), format!("1.25 at 0.5 a cubic unit {end}"));
         for (why, words) in [

@@ -41,20 +41,37 @@ fn tick(every: Duration, rest: Receiver<()>, mut out: impl Write) {
 #[cfg(test)]
 mod tests {
     use super::*;
+    use std::sync::Mutex;
+
+    /// What a person would see.
+    #[derive(Default)]
+    struct Screen(Mutex<Vec<u8>>);
+
+    impl Write for &Screen {
+        fn write(&mut self, bytes: &[u8]) -> io::Result<usize> {
+            self.0.lock().unwrap().extend(bytes);
+            Ok(bytes.len())
+        }
+        fn flush(&mut self) -> io::Result<()> {
+            Ok(())
+        }
+    }
 
     #[test]
     fn the_line_is_written_over_and_wiped() {
-        let mut out = Vec::new();
-        let answer = with_clock(Duration::from_millis(1), &mut out, || {
-            thread::sleep(Duration::from_millis(200));
+        let screen = Screen::default();
+        let answer = with_clock(Duration::from_millis(1), &screen, || {
+            while !screen.0.lock().unwrap().ends_with(b" s") {
+                thread::yield_now();
+            }
             7
         });
         assert_eq!(answer, 7);
-        let text = String::from_utf8(out).unwrap();
-        let line = "closing the scan: 0 s";
-        let wiped = format!("\r{}\r", " ".repeat(line.len()));
-        let lines = text.strip_suffix(&wiped).expect(&text);
-        assert!(lines.len() > line.len() && lines.split('\r').skip(1).all(|l| l == line), "{text:?}");
+        let text = String::from_utf8(screen.0.into_inner().unwrap()).unwrap();
+        let parts: Vec<&str> = text.split('\r').collect();
+        let ["", lines @ .., blank, ""] = &parts[..] else { panic!("{text:?}") };
+        assert!(lines.iter().all(|l| l.starts_with("closing the scan: ") && l.ends_with(" s")), "{text:?}");
+        assert_eq!(*blank, " ".repeat(lines.last().expect("the work has waited for a line").len()));
     }
 
     #[test]

@@ -3,7 +3,7 @@ mod card;
 mod elapsed;
 mod words;
 
-use hoardmagpie::{mesh_file, reconstruct, scan};
+use hoardmagpie::{mesh_file, picture, reconstruct, scan};
 use std::ffi::OsString;
 use std::io::Write;
 use std::path::Path;
@@ -23,7 +23,7 @@ fn failure(line: String) -> Failure {
     Failure { line, status: 1 }
 }
 
-/// Whether both names lead to one file: the mesh must not take the scan's place.
+/// Whether both names lead to one file: neither the mesh nor the picture must take the scan's place.
 fn same_file(a: &Path, b: &Path) -> bool {
     matches!((a.canonicalize(), b.canonicalize()), (Ok(a), Ok(b)) if a == b)
 }
@@ -33,6 +33,9 @@ fn spare_scan(job: &Job) -> Result<(), Failure> {
     let name = job.scan.display();
     if same_file(&job.scan, &job.mesh) {
         return Err(failure(format!("{name}: the mesh would replace the scan")));
+    }
+    if job.picture.as_ref().is_some_and(|picture| same_file(&job.scan, picture)) {
+        return Err(failure(format!("{name}: the picture would replace the scan")));
     }
     Ok(())
 }
@@ -47,6 +50,10 @@ fn close(job: &Job) -> Result<String, Failure> {
     let mesh = reconstruct(&points, &job.settings).map_err(|e| failure(format!("{name}: {e}")))?;
     let time = start.elapsed();
     mesh_file::write(&mesh, job.format, &job.mesh).map_err(|e| failure(format!("{}: {e}", job.mesh.display())))?;
+    if let Some(path) = &job.picture {
+        let drawn = picture::scan_and_mesh(&points, &mesh).write_png(path);
+        drawn.map_err(|e| failure(format!("{}: {e}; the mesh is written", path.display())))?;
+    }
     Ok(card::card(job, points.len(), &mesh, time))
 }
 

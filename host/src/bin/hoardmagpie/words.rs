@@ -4,7 +4,7 @@ use crate::Failure;
 use hoardmagpie::mesh_file::Format;
 use hoardmagpie::{Settings, Trimming};
 use std::ffi::OsString;
-use std::path::PathBuf;
+use std::path::{Path, PathBuf};
 use std::str::FromStr;
 
 /// What was asked for.
@@ -15,6 +15,7 @@ pub struct Job {
     pub settings: Settings,
     /// The mass of a cube whose side is the scan's unit of length.
     pub density: Option<f64>,
+    pub picture: Option<PathBuf>,
 }
 
 /// The words of the command are wrong.
@@ -40,6 +41,7 @@ SCAN is PLY with x y z nx ny nz, or text with six numbers a line; MESH ends in .
 
   --density X      mass of one cubic unit of the scan; the card then tells the solid's mass.
                    A scan in millimetres, iron of 7.1 kg/dm3: 7.1e-6 gives kilograms
+  --picture FILE   draw scan and mesh side by side; FILE ends in .png
 
 The card's volume is in cubic units of the scan. Volume and mass are computed by this program in
 double precision and are not proved; they are left out when the mesh is not closed.
@@ -51,7 +53,7 @@ double precision and are not proved; they are left out when the mesh is not clos
 /// Reads the words after `close`.
 pub fn read_job(words: &[OsString]) -> Result<Job, Failure> {
     let (mut scan, mut mesh, mut settings) = (None::<PathBuf>, None::<PathBuf>, Settings::default());
-    let mut density = None;
+    let (mut density, mut picture) = (None, None);
     let mut words = words.iter();
     while let Some(word) = words.next() {
         let name = word.to_string_lossy();
@@ -64,6 +66,7 @@ pub fn read_job(words: &[OsString]) -> Result<Job, Failure> {
             "--iterations" => settings.iterations = number_after(&name, &mut words)?,
             "--tolerance" => settings.tolerance = number_after(&name, &mut words)?,
             "--density" => density = Some(density_of(number_after(&name, &mut words)?)?),
+            "--picture" => picture = Some(picture_file(word_after(&name, &mut words)?.into())?),
             _ if name.starts_with('-') => return usage(format!("there is no option {name}")),
             _ if scan.is_some() => return usage(format!("one scan at a time, and `{name}` is a second")),
             _ => scan = Some(word.into()),
@@ -74,7 +77,7 @@ pub fn read_job(words: &[OsString]) -> Result<Job, Failure> {
     let Some(format) = Format::of(&mesh) else {
         return usage(format!("{} ends in neither .ply nor .obj", mesh.display()));
     };
-    Ok(Job { scan, mesh, format, settings, density })
+    Ok(Job { scan, mesh, format, settings, density, picture })
 }
 
 fn word_after<'a>(option: &str, words: &mut impl Iterator<Item = &'a OsString>) -> Result<&'a OsString, Failure> {
@@ -91,4 +94,15 @@ fn density_of(number: f64) -> Result<f64, Failure> {
         return Ok(number);
     }
     usage(format!("--density cannot be `{number}`: it is a finite number above zero"))
+}
+
+fn picture_file(path: PathBuf) -> Result<PathBuf, Failure> {
+    if is_png(&path) {
+        return Ok(path);
+    }
+    usage(format!("{} does not end in .png", path.display()))
+}
+
+fn is_png(path: &Path) -> bool {
+    path.extension().is_some_and(|ending| ending.eq_ignore_ascii_case("png"))
 }
