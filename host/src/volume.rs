@@ -38,8 +38,8 @@ pub fn volume(mesh: &Mesh) -> Result<f64, NoVolume> {
 
 /// The signed tetrahedra between the faces and the centre of the box.
 ///
-/// About any other point a closed mesh has the same sum on paper; but far from the part it would be a small difference of
-/// large numbers.
+/// About any other point a closed mesh has the same sum on paper. About one far from the part it would be a small difference
+/// of large numbers, and digits would be lost.
 fn tetrahedra(mesh: &Mesh) -> f64 {
     let centre: [f64; 3] = std::array::from_fn(|i| (f64::from(mesh.low[i]) + f64::from(mesh.high[i])) / 2.0);
     let corner = |v: u32| -> [f64; 3] {

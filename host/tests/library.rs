@@ -54,23 +54,33 @@ fn mesh(vertices: Vec<[f32; 3]>, faces: Vec<[u32; 3]>) -> Mesh {
     Mesh { usable: 0, level: 0.0, low: corner(f32::min), high: corner(f32::max), vertices, faces }
 }
 
-/// A cube of this side, whose faces look outward.
-fn cube(low: [f32; 3], side: f32) -> Mesh {
-    let vertices = (0..8).map(|i| [0, 1, 2].map(|a| low[a] + side * (i >> a & 1) as f32)).collect();
+/// A block between two corners, whose faces look outward.
+fn block(low: [f32; 3], high: [f32; 3]) -> Mesh {
+    let vertices = (0..8).map(|i| [0, 1, 2].map(|a| if i >> a & 1 == 0 { low[a] } else { high[a] })).collect();
     let sides = [[0, 4, 6, 2], [1, 3, 7, 5], [0, 1, 5, 4], [2, 6, 7, 3], [0, 2, 3, 1], [4, 5, 7, 6]];
     mesh(vertices, sides.iter().flat_map(|&[a, b, c, d]| [[a, b, c], [a, c, d]]).collect())
 }
 
-/// About the origin the terms of the far cube would be a million times a million times its volume.
+fn cube(low: [f32; 3], side: f32) -> Mesh {
+    block(low, low.map(|c| c + side))
+}
+
 #[test]
 fn volumes_near_and_far() {
     assert_eq!(volume(&cube([0.0; 3], 2.0)), Ok(8.0));
     assert_eq!(volume(&cube([4e6, -3e6, 2e6], 2.0)), Ok(8.0));
-    assert_eq!(volume(&cube([1e30, 0.0, 0.0], 1e30)).map(|v| (v / 1e90 - 1.0).abs() < 1e-6), Ok(true));
+    let near = |mesh: &Mesh, wanted: f64| {
+        let volume = volume(mesh).unwrap();
+        assert!((volume / wanted - 1.0).abs() < 1e-12, "{volume} for {wanted}");
+    };
+    let side = f64::from(2e30f32) - f64::from(1e30f32);
+    near(&block([1e30; 3], [2e30; 3]), side * side * side);
     let corners = [[0.0; 3], [1.0, 0.0, 0.0], [0.0, 2.0, 0.0], [0.0, 0.0, 3.0]];
-    let tetrahedron =
-        mesh(corners.map(|c| c.map(|c| c + 2_097_152.0)).to_vec(), vec![[0, 2, 1], [0, 1, 3], [1, 2, 3], [2, 0, 3]]);
-    assert!((volume(&tetrahedron).unwrap() - 1.0).abs() < 1e-12);
+    let moved = corners.map(|c| c.map(|c| c + 2_097_152.0)).to_vec();
+    near(&mesh(moved, vec![[0, 2, 1], [0, 1, 3], [1, 2, 3], [2, 0, 3]]), 1.0);
+    // A plate far off along two axes: about the origin the sum would be wrong in its third digit.
+    let thickness = f64::from(0.2f32) - f64::from(0.1f32);
+    near(&block([16_000_001.0, 0.1, 12_345_677.0], [16_000_003.0, 0.2, 12_345_679.0]), 4.0 * thickness);
 }
 
 #[test]
