@@ -138,6 +138,11 @@ impl Panel {
         [self.from[0] as f64 + right / self.step(), self.from[1] as f64 + up / self.step()]
     }
 
+    /// The counts of all nodes that the panel shows.
+    fn all(&self) -> impl Iterator<Item = (usize, usize)> + '_ {
+        (0..self.nodes * self.nodes).map(|q| (self.from[0] + q / self.nodes, self.from[1] + q % self.nodes))
+    }
+
     fn holds(&self, [i, j]: [f64; 2]) -> bool {
         let inside = |count: f64, from: usize| (from as f64..=(from + self.nodes - 1) as f64).contains(&count);
         inside(i, self.from[0]) && inside(j, self.from[1])
@@ -160,9 +165,7 @@ impl Panel {
             let (a, b) = (a as f64, b as f64);
             i >= a && i <= a + 1.0 && j >= b && j <= b + 1.0
         };
-        for (a, b) in
-            (0..self.nodes * self.nodes).map(|q| (self.from[0] + q / self.nodes, self.from[1] + q % self.nodes))
-        {
+        for (a, b) in self.all() {
             let ends: Vec<_> = crossings.iter().filter(|&&c| square(c, a, b)).collect();
             if let [from, to] = ends[..] {
                 canvas.line(self.place(*from, 1.0), self.place(*to, 1.0), 1.2 * FINE as f64, INK);
@@ -171,9 +174,7 @@ impl Panel {
     }
 
     fn nodes(&self, canvas: &mut Canvas, slice: &Slice) {
-        for (i, j) in
-            (0..self.nodes * self.nodes).map(|q| (self.from[0] + q / self.nodes, self.from[1] + q % self.nodes))
-        {
+        for (i, j) in self.all() {
             let at = |a: usize, b: usize, near| self.place([a as f64, b as f64], near);
             if i + 1 < self.from[0] + self.nodes {
                 canvas.line(at(i, j, 0.5), at(i + 1, j, 0.5), 0.5 * FINE as f64, GREY);
