@@ -1,2 +1,3 @@
--- What a call's ending leaves.
+-- The slices that a call is lent, and what its ending leaves in them.
+pub mod Slices
 pub mod Ending
