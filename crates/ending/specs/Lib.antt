@@ -1,3 +1,4 @@
--- The slices that a call is lent, and what its ending leaves in them.
+-- The slices that a call is lent, what its ending leaves in them, and what it is that no second outcome fits.
 pub mod Slices
 pub mod Ending
+pub mod OneOutcome
