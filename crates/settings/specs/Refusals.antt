@@ -1,6 +1,6 @@
 -- Document 01, "Numbers of refusal, in order of checking": each line of the column "Given exactly when" as a verdict, in the column's order.
 -- Definitions only; assumes nothing.
-use mathlib.Core.Bool.{Bool, true, false, cond, not, _||_}
+use mathlib.Core.Bool.{Bool, false, cond, not, _||_}
 use mathlib.Core.List.{List, [], _∷_}
 use Prim.Native.Nat.{ℕ, _*_, _%_, _^_}
 use lib.Dec.{ltb, eqb}
@@ -13,17 +13,6 @@ use Rattle.settings.specs.declared.Lengths.{Lengths}
 use Rattle.settings.specs.declared.Verdict.{Verdict}
 use Rattle.settings.specs.declared.Verdict.the-variants.{Pass, PointSlice, NoPoints, Depth, Smoothing, ScratchRoom, TooFew, Flat, VertexRoom, FaceRoom, NoFace}
 use Rattle.settings.specs.Answers.{accepts}
-
--- how long the lent slices are: the two for the mesh, the seven of a value a node, the edge table, and the one of a distance a point
-abbrev pub lengthsOf : (vs : List Float) (fs : List ℕ) (s0 s1 s2 s3 s4 s5 s6 : List Float) (edges : List ℕ) (distances : List Float) → Lengths
-lengthsOf vs fs s0 s1 s2 s3 s4 s5 s6 edges distances =
-    record {
-      vertices = length vs;
-      faces = length fs;
-      grids = length s0 ∷ length s1 ∷ length s2 ∷ length s3 ∷ length s4 ∷ length s5 ∷ length s6 ∷ [];
-      edges = length edges;
-      distances = length distances;
-    }
 
 -- the verdict v where the test holds
 infix 30 _when_
