@@ -1,4 +1,6 @@
 -- Document 01's Arithmetic: the definitions, then what is proved of them.
+pub mod Constants
+pub mod ConstantValues
 pub mod Arithmetic
 pub mod Ieee754
 pub mod NanTest
