@@ -6,7 +6,7 @@ use Prim.Native.Nat.{ℕ, zero, suc, _+_, _-_, _*_}
 use lib.IntN.{pos}
 use lib.Dec.{leb, ltb}
 use lib.Ieee.{Float, binary32, binary64, ofInt, toUnsigned, add, mul, div}
-use Rattle.lists.specs.Lists.{tabulate, at, zero32}
+use Rattle.lists.specs.Lists.{tabulate, at, zero32, foldTo}
 use Rattle.numbers.specs.Constants.{half64, two64, three64, six64}
 use Rattle.numbers.specs.Arithmetic.{ceiled, clamped, expNeg}
 use Rattle.closed.specs.Grid.{node}
@@ -65,8 +65,7 @@ withTerm v line w Outside s = s
 
 -- the terms of the first t offsets, in f32 from +0.0; nothing is divided by the weights
 unfoldable pub blurTo : (v : List Float) (line : ℕ → ℕ) (n place radius : ℕ) (kernel : List Float) (t : ℕ) → Float
-blurTo v line n place radius kernel zero = zero32
-blurTo v line n place radius kernel (suc t) = withTerm v line (at kernel t) (movedTo n radius place t) (blurTo v line n place radius kernel t)
+blurTo v line n place radius kernel t = foldTo (λ s u. withTerm v line (at kernel u) (movedTo n radius place u) s) zero32 t
 
 -- of all offsets, at node q
 unfoldable pub blurAt : (axis n radius : ℕ) (kernel v : List Float) (q : ℕ) → Float

@@ -2,10 +2,10 @@
 -- All values at the nodes are f32; n is the number of nodes per side, and N = n * n * n. Definitions only; assumes nothing.
 use mathlib.Core.Bool.{cond}
 use mathlib.Core.List.{List, foldl}
-use Prim.Native.Nat.{ℕ, zero, suc, _+_, _-_, _*_}
+use Prim.Native.Nat.{ℕ, _+_, _-_, _*_}
 use lib.ListN.{set}
 use lib.Ieee.{Float, binary32, binary64, neg, add, sub, mul, div}
-use Rattle.lists.specs.Lists.{tabulate, at, zero32, zeros32}
+use Rattle.lists.specs.Lists.{tabulate, at, zero32, zeros32, foldTo}
 use Rattle.numbers.specs.Constants.{minusZero32, two32}
 use Rattle.numbers.specs.Arithmetic.{narrowed}
 use Rattle.grid.specs.declared.Grid.{Grid}
@@ -24,8 +24,7 @@ cornerAdded n cell u c v =
 
 -- the first c corners
 unfoldable pub cornersAdded : (n : ℕ) (cell : Cell) (u : Float) (c : ℕ) (v : List Float) → List Float
-cornersAdded n cell u zero v = v
-cornersAdded n cell u (suc c) v = cornerAdded n cell u c (cornersAdded n cell u c v)
+cornersAdded n cell u c v = foldTo (λ w d. cornerAdded n cell u d w) v c
 
 -- a point with all eight; a is the component: 0, 1 or 2
 unfoldable pub pointAdded : (g : Grid) (a : ℕ) (v : List Float) (p : Point) → List Float

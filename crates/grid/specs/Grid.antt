@@ -7,7 +7,7 @@ use lib.IntN.{pos}
 use lib.Dec.{eqb}
 use lib.ListN.{getD}
 use lib.Ieee.{Float, binary64, ofInt, toUnsigned, add, sub, mul, div}
-use Rattle.lists.specs.Lists.{at}
+use Rattle.lists.specs.Lists.{at, foldTo}
 use Rattle.numbers.specs.Constants.{zero64, minusZero64, one64}
 use Rattle.numbers.specs.Arithmetic.{floored, clamped}
 use Rattle.closed.specs.Grid.{node}
@@ -150,10 +150,13 @@ cellCorner n q c =
 
 -- ---- a sample
 
--- weight·value of the first c corners, added in corner order from -0.0
+-- a sum with weight·value of corner c
+abbrev pub withCorner : (n : ℕ) (values : List Float) (q : Cell) (s : Float) (c : ℕ) → Float
+withCorner n values q s c = add binary64 s (mul binary64 (weightAt q c) (at values (cellCorner n q c)))
+
+-- the first c corners, in corner order from -0.0; a sample takes all eight
 unfoldable pub sumTo : (n : ℕ) (values : List Float) (q : Cell) (c : ℕ) → Float
-sumTo n values q zero = minusZero64
-sumTo n values q (suc c) = add binary64 (sumTo n values q c) (mul binary64 (weightAt q c) (at values (cellCorner n q c)))
+sumTo n values q c = foldTo (withCorner n values q) minusZero64 c
 
 unfoldable pub sampled : (g : Grid) (values p : List Float) → Float
 sampled g values p = sumTo (g .nodes) values (cellAt g p) 8

@@ -69,7 +69,7 @@ pub extern "C" fn hoardmagpie_conjugate_gradient(
 )
     requires { ⌜ Sides nodes ⌝ }
     requires { ⌜ (length (now b) ≡ nodes * nodes * nodes) × (length (now x) ≡ nodes * nodes * nodes) × (length (now r) ≡ nodes * nodes * nodes) × (length (now p) ≡ nodes * nodes * nodes) × (length (now ap) ≡ nodes * nodes * nodes) ⌝ }
-    ensures { λ _. ⌜ level.Left (gridOfSide nodes) (conjugate (gridOfSide nodes) tolerance cap (now (b .entry)) (now (x .entry))) (now (x .exit)) (now (r .exit)) (now (p .exit)) (now (ap .exit)) ⌝ }
+    ensures { λ _. ⌜ level.SolutionLeft (gridOfSide nodes) (conjugate (gridOfSide nodes) tolerance cap (now (b .entry)) (now (x .entry))) (now (x .exit)) (now (r .exit)) (now (p .exit)) (now (ap .exit)) ⌝ }
 {
     let g = Grid {
         nodes,

@@ -1,18 +1,21 @@
 -- Document 01, "Solver", its dot product, and the sums over all nodes that a step makes. Values at the nodes are f32 and sums over them f64. Definitions only; assumes nothing.
 use mathlib.Core.List.{List}
-use Prim.Native.Nat.{ℕ, zero, suc}
+use Prim.Native.Nat.{ℕ}
 use lib.Ieee.{Float, binary32, binary64, add, sub, mul}
 use Rattle.numbers.specs.Constants.{zero64}
-use Rattle.lists.specs.Lists.{at}
+use Rattle.lists.specs.Lists.{at, foldTo}
 use Rattle.grid.specs.declared.Grid.{Grid}
 use Rattle.grid.specs.Grid.{allNodes}
 
 -- ---- the dot product: f64, index order, from +0.0
 
--- the first k products. An f32 is the same number at f64, so the terms are multiplied as they are
+-- a sum with the product at k. An f32 is the same number at f64, so the terms are multiplied as they are
+abbrev pub withProduct : (a b : List Float) (s : Float) (k : ℕ) → Float
+withProduct a b s k = add binary64 s (mul binary64 (at a k) (at b k))
+
+-- the first k products
 unfoldable pub dotTo : (a b : List Float) (k : ℕ) → Float
-dotTo a b zero = zero64
-dotTo a b (suc k) = add binary64 (dotTo a b k) (mul binary64 (at a k) (at b k))
+dotTo a b k = foldTo (withProduct a b) zero64 k
 
 unfoldable pub dotted : (g : Grid) (a b : List Float) → Float
 dotted g a b = dotTo a b (allNodes g)
