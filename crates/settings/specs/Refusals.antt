@@ -5,7 +5,8 @@ use mathlib.Core.List.{List, [], _∷_}
 use Prim.Native.Nat.{ℕ, _*_, _%_, _^_}
 use lib.Dec.{ltb, eqb}
 use lib.ListN.{length}
-use lib.Ieee.{Float, ofBits, binary64, lt, eq}
+use lib.Ieee.{Float, lt, eq}
+use Rattle.numbers.specs.Constants.{zero64}
 use Rattle.lists.specs.Lists.{zero32}
 use Rattle.points.specs.Points.{numbersPerPoint, given}
 use Rattle.settings.specs.declared.Settings.{Settings}
@@ -67,7 +68,7 @@ usableVerdict usable = TooFew when ltb usable 10
 
 -- 5: largest extent is zero
 unfoldable pub extentVerdict : (extent : Float) → Verdict
-extentVerdict extent = Flat when eq extent (ofBits binary64 0)
+extentVerdict extent = Flat when eq extent zero64
 
 -- 9: vertex slice shorter than 3V of the untrimmed mesh
 unfoldable pub vertexRoomVerdict : (vertices : ℕ) → Lengths → Verdict
