@@ -1,4 +1,5 @@
--- The results of a call for the field alone by the way that it went: refused, or solved; and what it tells that its checks pass. By the verdict's cases. Assumes nothing.
+-- The results of a call for the field alone by the way that it went: refused, or solved; and what it tells that its checks pass. By the verdict's cases.
+-- Assumes nothing.
 use mathlib.Core.Path.{_≡_, refl, sym, ap, _∙_, subst}
 use mathlib.Core.Bool.{Bool, false, cond}
 use mathlib.Core.List.{List, [], _++_}
@@ -21,7 +22,9 @@ use Rattle.settings.specs.Answers.{accepts, refused}
 use Rattle.settings.specs.Refusals.{_when_, _then_, earlyVerdict, usableVerdict, extentVerdict}
 use Rattle.settings.specs.Passed.{both-pass, unless, ChecksPassed, ready}
 use Rattle.scan.specs.Reconstruction.{extentFor, fieldFor}
-use Rattle.scan.specs.FieldAlone.{valuesVerdict, fieldVerdict, fieldAnswer, fieldUnder, fieldResults}
+use Rattle.ending.specs.Slices.{FieldSlices}
+use Rattle.scan.specs.FieldAlone.{FieldResults, valuesVerdict, fieldVerdict, fieldAnswer, fieldUnder, fieldResults}
+use Rattle.alone.specs.Outcome.{FieldDone}
 use Rattle.alone.specs.Inner.{FieldShown}
 
 -- ---- the check of the values' slice in the row of checks
@@ -74,3 +77,10 @@ front-padded values field {ys} h e =
     let first = ap (λ (t : List Float). take n (t ++ drop n field)) e ∙ take-at values (drop n field) n refl in
     let same : length (ys ++ drop n field) ≡ length field = ap (λ (t : List Float). length (t ++ drop n field)) e ∙ length-append values (drop n field) ∙ omega (arith, length-drop n field) in
     cleared-padded zero32 values (ys ++ drop n field) first refl same
+
+-- ---- the whole call
+
+-- what is done for some results is done for results that are equal
+pub carry-field : {p q : Lengths → (room : ℕ) → FieldResults} {r : Answer} {before after : FieldSlices}
+    → p ≡ q → FieldDone p r before after → FieldDone q r before after
+carry-field {p} {q} {r} {before} {after} e d = subst (λ (o : Lengths → (room : ℕ) → FieldResults). FieldDone o r before after) e d

@@ -1,5 +1,5 @@
-// The field alone, for who wants the values and not the mesh: the same checks as far as they do not speak of the mesh, the same stages as far as the level, the same ending.
-// The Rust has no such function. Nothing is required. `poisson` passes it on.
+// The field alone, for who wants the values and not the mesh: the same checks as far as they do not speak of the mesh, the same stages as far as the level,
+// the same ending. The Rust has no such function. Nothing is required. `poisson` passes it on.
 ghost use mathlib.Core.Path.{_≡_};
 ghost use Prim.Native.Nat.{_≤_};
 ghost use lib.ListN.{length};
@@ -7,8 +7,8 @@ ghost use Rattle.lists.specs.Lists.{zero32, padded};
 ghost use Rattle.points.specs.Points.{usables};
 ghost use Rattle.settings.specs.Refusals.{_then_, usableVerdict, extentVerdict};
 ghost use Rattle.scan.specs.Reconstruction.{extentFor, fieldFor};
-ghost use Rattle.scan.specs.FieldAlone.{fieldVerdict, fieldAnswer, fieldResults};
-ghost use Rattle.alone.specs.Outcome.{fieldLengths, FieldDone};
+ghost use Rattle.scan.specs.FieldAlone.{fieldLengths, fieldVerdict, fieldAnswer, fieldResults};
+ghost use Rattle.alone.specs.Outcome.{FieldDone};
 ghost use Rattle.alone.specs.Inner.{FieldShown, Solvable};
 use points::Bounds;
 use settings::Answer;
@@ -78,7 +78,8 @@ fn solve_field(
     distances: &mut [f32],
 ) -> Answer
     requires { ⌜ Solvable (now points) settings (now field) (now s0) (now s1) (now s2) (now s3) (now s4) (now s5) (now s6) (now distances) ⌝ }
-    ensures { λ r. ⌜ (r ≡ fieldAnswer (usables (now (points .entry))) settings) × (now (field .exit) ≡ padded zero32 (length (now (field .entry))) (fieldFor (usables (now (points .entry))) settings)) ⌝ }
+    ensures { λ r. ⌜ (r ≡ fieldAnswer (usables (now (points .entry))) settings)
+        × (now (field .exit) ≡ padded zero32 (length (now (field .entry))) (fieldFor (usables (now (points .entry))) settings)) ⌝ }
 {
     let level = scan::field_and_level(
         points,
@@ -120,7 +121,21 @@ fn attempt_field(
     edges: &[u32],
     distances: &mut [f32],
 ) -> Answer
-    ensures { λ r. ⌜ FieldShown (fieldResults (now (points .entry)) settings (fieldLengths (now (s0 .entry)) (now (s1 .entry)) (now (s2 .entry)) (now (s3 .entry)) (now (s4 .entry)) (now (s5 .entry)) (now (s6 .entry)) (now (edges .entry)) (now (distances .entry))) (length (now (field .entry)))) r (now (field .entry)) (now (field .exit)) ⌝ }
+    ensures { λ r. ⌜ FieldShown
+        (fieldResults (now (points .entry)) settings
+        (fieldLengths (record {
+          s0 = now (s0 .entry);
+          s1 = now (s1 .entry);
+          s2 = now (s2 .entry);
+          s3 = now (s3 .entry);
+          s4 = now (s4 .entry);
+          s5 = now (s5 .entry);
+          s6 = now (s6 .entry);
+          edges = now (edges .entry);
+          distances = now (distances .entry);
+        }))
+        (length (now (field .entry))))
+        r (now (field .entry)) (now (field .exit)) ⌝ }
 {
     let grids = [
         s0.len(),
@@ -174,7 +189,35 @@ pub fn poisson_field(
     edges: &mut [u32],
     distances: &mut [f32],
 ) -> Answer
-    ensures { λ r. ⌜ FieldDone (fieldResults (now (points .entry)) settings (fieldLengths (now (s0 .entry)) (now (s1 .entry)) (now (s2 .entry)) (now (s3 .entry)) (now (s4 .entry)) (now (s5 .entry)) (now (s6 .entry)) (now (edges .entry)) (now (distances .entry))) (length (now (field .entry)))) r (now (field .entry)) (now (field .exit)) (now (s0 .entry)) (now (s0 .exit)) (now (s1 .entry)) (now (s1 .exit)) (now (s2 .entry)) (now (s2 .exit)) (now (s3 .entry)) (now (s3 .exit)) (now (s4 .entry)) (now (s4 .exit)) (now (s5 .entry)) (now (s5 .exit)) (now (s6 .entry)) (now (s6 .exit)) (now (edges .entry)) (now (edges .exit)) (now (distances .entry)) (now (distances .exit)) ⌝ }
+    ensures { λ r. ⌜ FieldDone (fieldResults (now (points .entry)) settings) r
+        (record {
+          values = now (field .entry);
+          scratch = record {
+            s0 = now (s0 .entry);
+            s1 = now (s1 .entry);
+            s2 = now (s2 .entry);
+            s3 = now (s3 .entry);
+            s4 = now (s4 .entry);
+            s5 = now (s5 .entry);
+            s6 = now (s6 .entry);
+            edges = now (edges .entry);
+            distances = now (distances .entry);
+          };
+        })
+        (record {
+          values = now (field .exit);
+          scratch = record {
+            s0 = now (s0 .exit);
+            s1 = now (s1 .exit);
+            s2 = now (s2 .exit);
+            s3 = now (s3 .exit);
+            s4 = now (s4 .exit);
+            s5 = now (s5 .exit);
+            s6 = now (s6 .exit);
+            edges = now (edges .exit);
+            distances = now (distances .exit);
+          };
+        }) ⌝ }
 {
     let answer = attempt_field(
         points,

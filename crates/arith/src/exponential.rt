@@ -1,6 +1,7 @@
 // The exponential of -x, bit for bit: the series at x/64 from its last term inwards, then six squarings, since e^-x is the 64th power of e^(-x/64).
 ghost use mathlib.Core.Path.{_≡_};
-ghost use Rattle.numbers.specs.Arithmetic.{series, squared, expNeg, one64};
+ghost use Rattle.numbers.specs.Constants.{one64};
+ghost use Rattle.numbers.specs.Arithmetic.{series, squared, expNeg};
 use crate::narrowing::narrow;
 
 // u = x/64; the series; six squarings; narrowed. Every f64 has a result.

@@ -5,8 +5,9 @@ use mathlib.Core.List.{List}
 use Prim.Native.Nat.{ℕ, zero, suc, _+_, _-_, _*_}
 use lib.IntN.{pos}
 use lib.Dec.{leb, ltb}
-use lib.Ieee.{Float, binary32, binary64, ofBits, ofInt, toUnsigned, add, mul, div}
+use lib.Ieee.{Float, binary32, binary64, ofInt, toUnsigned, add, mul, div}
 use Rattle.lists.specs.Lists.{tabulate, at, zero32, foldTo}
+use Rattle.numbers.specs.Constants.{half64, two64, three64, six64}
 use Rattle.numbers.specs.Arithmetic.{ceiled, clamped, expNeg}
 use Rattle.closed.specs.Grid.{node}
 use Rattle.grid.specs.Grid.{digitI, digitJ, digitK}
@@ -14,18 +15,6 @@ use Rattle.blur.specs.declared.blur.Place.{Place}
 use Rattle.blur.specs.declared.blur.Place.the-variants.{At, Outside}
 
 -- ---- sigma, radius, weights
-
-abbrev pub half64 : Float
-half64 = ofBits binary64 0x3FE0_0000_0000_0000
-
-abbrev pub two64 : Float
-two64 = ofBits binary64 0x4000_0000_0000_0000
-
-abbrev pub three64 : Float
-three64 = ofBits binary64 0x4008_0000_0000_0000
-
-abbrev pub six64 : Float
-six64 = ofBits binary64 0x4018_0000_0000_0000
 
 -- smoothing·spacing/h, clamped to 0.5..6.0
 unfoldable pub sigmaOf : (smoothing spacing h : Float) → Float

@@ -12,11 +12,12 @@ use lib.Ieee.{Float, nan, inf, fin, binary64, up, down, ofBits, mul, div, lt, le
 use lib.Ieee.Fits.{down-pos, mul-fits}
 use lib.Ieee.Bits.{is-true}
 use lib.Ieee.Positive.{positive, positive-finite, between, mul-mono}
+use Rattle.numbers.specs.Constants.{half64, three64, six64}
 use Rattle.numbers.specs.Arithmetic.{clamped, ceiled}
 use Rattle.numbers.specs.Comparing.{holds}
 use Rattle.numbers.specs.Between.{clamped-in}
 use Rattle.numbers.specs.Floors.{ceiled-least}
-use Rattle.blur.specs.Blur.{half64, three64, six64, sigmaOf, radiusOf}
+use Rattle.blur.specs.Blur.{sigmaOf, radiusOf}
 
 -- ---- the numbers here
 

@@ -4,17 +4,19 @@ use mathlib.Core.Bool.{cond}
 use mathlib.Core.List.{List, [], _∷_}
 use Prim.Native.Nat.{ℕ}
 use lib.Dec.{eqb}
-use lib.ListN.{length, getD}
 use lib.Ieee.{Float}
-use Rattle.lists.specs.Lists.{at, zero32, padded}
+use Rattle.lists.specs.Lists.{at, zero32}
 use Rattle.settings.specs.declared.Settings.{Settings}
 use Rattle.settings.specs.declared.Trimming.{Trimming}
 use Rattle.settings.specs.declared.Trimming.the-variants.{Off, Within}
 use Rattle.settings.specs.declared.Answer.{Answer}
+use Rattle.settings.specs.declared.Lengths.{Lengths}
 use Rattle.settings.specs.Settings.{defaults}
-use Rattle.ending.specs.Ending.{Cleared}
+use Rattle.ending.specs.Slices.{Slices, FieldSlices}
 use Rattle.scan.specs.Reconstruction.{Results}
 use Rattle.scan.specs.FieldAlone.{FieldResults}
+use Rattle.alone.specs.Outcome.{FieldDone}
+use Rattle.poisson.specs.Outcome.{Done}
 
 -- ---- in
 
@@ -43,22 +45,24 @@ countsOf r = r .usable ∷ r .vertices ∷ r .faces ∷ 0 ∷ 0 ∷ 0 ∷ 0 ∷ 
 abbrev pub valuesOf : Answer → List Float
 valuesOf r = r .level ∷ at (r .low) 0 ∷ at (r .low) 1 ∷ at (r .low) 2 ∷ at (r .high) 0 ∷ at (r .high) 1 ∷ at (r .high) 2 ∷ zero32 ∷ []
 
--- the whole of a call: `Done` of the crate `poisson`, with the answer told apart
-pub record Told (results : Results) (number : ℕ) (counts : List ℕ) (values : List Float) (vs vs′ : List Float) (fs fs′ : List ℕ) (s0 s0′ s1 s1′ s2 s2′ s3 s3′ s4 s4′ s5 s5′ s6 s6′ : List Float) (edges edges′ : List ℕ) (distances distances′ : List Float) : Type 0 where
-  pub number-is : number ≡ results .answer .number
-  pub counts-are : counts ≡ countsOf (results .answer)
-  pub values-are : values ≡ valuesOf (results .answer)
-  pub vertices : vs′ ≡ padded zero32 (length vs) (results .vertices)
-  pub faces : fs′ ≡ padded 0 (length fs) (results .faces)
-  pub scratch : Cleared s0 s0′ s1 s1′ s2 s2′ s3 s3′ s4 s4′ s5 s5′ s6 s6′ edges edges′ distances distances′
+-- an answer as it crosses: its number, and the rest in two small arrays
+pub record AnswerTold (answer : Answer) (number : ℕ) (counts : List ℕ) (values : List Float) : Type 0 where
+  pub number-is : number ≡ answer .number
+  pub counts-are : counts ≡ countsOf answer
+  pub values-are : values ≡ valuesOf answer
+
+-- the whole of a call: what is `Done` of the crate `poisson` for an answer, and that is told
+pub record Told (results : Lengths → Results) (number : ℕ) (counts : List ℕ) (values : List Float) (before after : Slices) : Type 0 where
+  pub answer : Answer
+  pub told : AnswerTold answer number counts values
+  pub done : Done results answer before after
 
 -- the same of `FieldDone`
-pub record FieldTold (results : FieldResults) (number : ℕ) (counts : List ℕ) (values : List Float) (field field′ s0 s0′ s1 s1′ s2 s2′ s3 s3′ s4 s4′ s5 s5′ s6 s6′ : List Float) (edges edges′ : List ℕ) (distances distances′ : List Float) : Type 0 where
-  pub number-is : number ≡ results .answer .number
-  pub counts-are : counts ≡ countsOf (results .answer)
-  pub values-are : values ≡ valuesOf (results .answer)
-  pub field-is : field′ ≡ padded zero32 (length field) (results .values)
-  pub scratch : Cleared s0 s0′ s1 s1′ s2 s2′ s3 s3′ s4 s4′ s5 s5′ s6 s6′ edges edges′ distances distances′
+pub record FieldTold (results : Lengths → (room : ℕ) → FieldResults) (number : ℕ) (counts : List ℕ) (values : List Float)
+    (before after : FieldSlices) : Type 0 where
+  pub answer : Answer
+  pub told : AnswerTold answer number counts values
+  pub done : FieldDone results answer before after
 
 -- ---- the defaults: depth, trimming flag, iterations; smoothing, offset, distance; tolerance
 

@@ -1,12 +1,9 @@
-// The library for programs in other languages (include/hoardmagpie.h): numbers, slices as pointer and length, and two small arrays; no struct and no enum crosses.
-// Each exported function calls the one of the crate `poisson` and tells its answer; nothing else is done here, and nothing is required.
+// The library for programs in other languages (include/hoardmagpie.h): numbers, slices as pointer and length, and two small arrays; no struct and no enum
+// crosses. Each exported function calls the one of the crate `poisson` and tells its answer; nothing else is done here, and nothing is required.
 ghost use mathlib.Core.Path.{_≡_};
-ghost use lib.ListN.{length};
 ghost use Rattle.settings.specs.Settings.{defaults};
 ghost use Rattle.scan.specs.Reconstruction.{reconstructed};
 ghost use Rattle.scan.specs.FieldAlone.{fieldResults};
-ghost use Rattle.alone.specs.Outcome.{fieldLengths};
-ghost use Rattle.settings.specs.Refusals.{lengthsOf};
 ghost use Rattle.capi.specs.Flat.{trimmingFrom, settingsFrom, countsOf, valuesOf, Told, FieldTold, defaultWords, defaultValues, defaultTolerance};
 use settings::Answer;
 use settings::Settings;
@@ -105,7 +102,38 @@ pub extern "C" fn poisson_reconstruct(
     counts: &mut [u64; 8],
     values: &mut [f32; 8],
 ) -> u32
-    ensures { λ r. ⌜ Told (reconstructed (now (points .entry)) (settingsFrom depth smoothing offset trimming distance iterations tolerance) (lengthsOf (now (vertices .entry)) (now (faces .entry)) (now (s0 .entry)) (now (s1 .entry)) (now (s2 .entry)) (now (s3 .entry)) (now (s4 .entry)) (now (s5 .entry)) (now (s6 .entry)) (now (edges .entry)) (now (distances .entry)))) r (now (counts .exit)) (now (values .exit)) (now (vertices .entry)) (now (vertices .exit)) (now (faces .entry)) (now (faces .exit)) (now (s0 .entry)) (now (s0 .exit)) (now (s1 .entry)) (now (s1 .exit)) (now (s2 .entry)) (now (s2 .exit)) (now (s3 .entry)) (now (s3 .exit)) (now (s4 .entry)) (now (s4 .exit)) (now (s5 .entry)) (now (s5 .exit)) (now (s6 .entry)) (now (s6 .exit)) (now (edges .entry)) (now (edges .exit)) (now (distances .entry)) (now (distances .exit)) ⌝ }
+    ensures { λ r. ⌜ Told (reconstructed (now (points .entry)) (settingsFrom depth smoothing offset trimming distance iterations tolerance)) r
+        (now (counts .exit)) (now (values .exit))
+        (record {
+          vertices = now (vertices .entry);
+          faces = now (faces .entry);
+          scratch = record {
+            s0 = now (s0 .entry);
+            s1 = now (s1 .entry);
+            s2 = now (s2 .entry);
+            s3 = now (s3 .entry);
+            s4 = now (s4 .entry);
+            s5 = now (s5 .entry);
+            s6 = now (s6 .entry);
+            edges = now (edges .entry);
+            distances = now (distances .entry);
+          };
+        })
+        (record {
+          vertices = now (vertices .exit);
+          faces = now (faces .exit);
+          scratch = record {
+            s0 = now (s0 .exit);
+            s1 = now (s1 .exit);
+            s2 = now (s2 .exit);
+            s3 = now (s3 .exit);
+            s4 = now (s4 .exit);
+            s5 = now (s5 .exit);
+            s6 = now (s6 .exit);
+            edges = now (edges .exit);
+            distances = now (distances .exit);
+          };
+        }) ⌝ }
 {
     let settings = settings_from(
         depth,
@@ -154,7 +182,38 @@ pub extern "C" fn poisson_reconstruct_default(
     counts: &mut [u64; 8],
     values: &mut [f32; 8],
 ) -> u32
-    ensures { λ r. ⌜ Told (reconstructed (now (points .entry)) defaults (lengthsOf (now (vertices .entry)) (now (faces .entry)) (now (s0 .entry)) (now (s1 .entry)) (now (s2 .entry)) (now (s3 .entry)) (now (s4 .entry)) (now (s5 .entry)) (now (s6 .entry)) (now (edges .entry)) (now (distances .entry)))) r (now (counts .exit)) (now (values .exit)) (now (vertices .entry)) (now (vertices .exit)) (now (faces .entry)) (now (faces .exit)) (now (s0 .entry)) (now (s0 .exit)) (now (s1 .entry)) (now (s1 .exit)) (now (s2 .entry)) (now (s2 .exit)) (now (s3 .entry)) (now (s3 .exit)) (now (s4 .entry)) (now (s4 .exit)) (now (s5 .entry)) (now (s5 .exit)) (now (s6 .entry)) (now (s6 .exit)) (now (edges .entry)) (now (edges .exit)) (now (distances .entry)) (now (distances .exit)) ⌝ }
+    ensures { λ r. ⌜ Told (reconstructed (now (points .entry)) defaults) r
+        (now (counts .exit)) (now (values .exit))
+        (record {
+          vertices = now (vertices .entry);
+          faces = now (faces .entry);
+          scratch = record {
+            s0 = now (s0 .entry);
+            s1 = now (s1 .entry);
+            s2 = now (s2 .entry);
+            s3 = now (s3 .entry);
+            s4 = now (s4 .entry);
+            s5 = now (s5 .entry);
+            s6 = now (s6 .entry);
+            edges = now (edges .entry);
+            distances = now (distances .entry);
+          };
+        })
+        (record {
+          vertices = now (vertices .exit);
+          faces = now (faces .exit);
+          scratch = record {
+            s0 = now (s0 .exit);
+            s1 = now (s1 .exit);
+            s2 = now (s2 .exit);
+            s3 = now (s3 .exit);
+            s4 = now (s4 .exit);
+            s5 = now (s5 .exit);
+            s6 = now (s6 .exit);
+            edges = now (edges .exit);
+            distances = now (distances .exit);
+          };
+        }) ⌝ }
 {
     let answer = poisson::poisson_reconstruction_default(
         points,
@@ -199,7 +258,36 @@ pub extern "C" fn poisson_field(
     counts: &mut [u64; 8],
     values: &mut [f32; 8],
 ) -> u32
-    ensures { λ r. ⌜ FieldTold (fieldResults (now (points .entry)) (settingsFrom depth smoothing offset trimming distance iterations tolerance) (fieldLengths (now (s0 .entry)) (now (s1 .entry)) (now (s2 .entry)) (now (s3 .entry)) (now (s4 .entry)) (now (s5 .entry)) (now (s6 .entry)) (now (edges .entry)) (now (distances .entry))) (length (now (field .entry)))) r (now (counts .exit)) (now (values .exit)) (now (field .entry)) (now (field .exit)) (now (s0 .entry)) (now (s0 .exit)) (now (s1 .entry)) (now (s1 .exit)) (now (s2 .entry)) (now (s2 .exit)) (now (s3 .entry)) (now (s3 .exit)) (now (s4 .entry)) (now (s4 .exit)) (now (s5 .entry)) (now (s5 .exit)) (now (s6 .entry)) (now (s6 .exit)) (now (edges .entry)) (now (edges .exit)) (now (distances .entry)) (now (distances .exit)) ⌝ }
+    ensures { λ r. ⌜ FieldTold (fieldResults (now (points .entry)) (settingsFrom depth smoothing offset trimming distance iterations tolerance)) r
+        (now (counts .exit)) (now (values .exit))
+        (record {
+          values = now (field .entry);
+          scratch = record {
+            s0 = now (s0 .entry);
+            s1 = now (s1 .entry);
+            s2 = now (s2 .entry);
+            s3 = now (s3 .entry);
+            s4 = now (s4 .entry);
+            s5 = now (s5 .entry);
+            s6 = now (s6 .entry);
+            edges = now (edges .entry);
+            distances = now (distances .entry);
+          };
+        })
+        (record {
+          values = now (field .exit);
+          scratch = record {
+            s0 = now (s0 .exit);
+            s1 = now (s1 .exit);
+            s2 = now (s2 .exit);
+            s3 = now (s3 .exit);
+            s4 = now (s4 .exit);
+            s5 = now (s5 .exit);
+            s6 = now (s6 .exit);
+            edges = now (edges .exit);
+            distances = now (distances .exit);
+          };
+        }) ⌝ }
 {
     let settings = settings_from(
         depth,

@@ -6,9 +6,10 @@ use mathlib.Core.List.{List, [], _∷_, _++_}
 use Prim.Native.Nat.{ℕ, _+_}
 use lib.Dec.{eqb}
 use lib.IntN.{pos}
-use lib.Ieee.{Float, binary32, binary64, ofBits, ofInt, add, sub, div, lt}
+use lib.Ieee.{Float, binary32, binary64, ofInt, add, sub, div, lt}
 use lib.ListN.{getD}
 use Rattle.lists.specs.Lists.{at, zero32}
+use Rattle.numbers.specs.Constants.{one32}
 use Rattle.numbers.specs.Arithmetic.{clamped, narrowed}
 use Rattle.closed.specs.Lists.{bit}
 use Rattle.closed.specs.Faces.{Face}
@@ -55,9 +56,6 @@ unfoldable pub extractedFaces : (values : List Float) (l : Lattice) (iso : Float
 extractedFaces values l iso = mesh (edgeFaces values l iso)
 
 -- ---- where a vertex lies
-
-abbrev pub one32 : Float
-one32 = ofBits binary32 0x3F80_0000
 
 -- t = (iso-v0)/(v1-v0) clamped to 0..1, in f32
 abbrev pub crossing : (v0 v1 iso : Float) → Float

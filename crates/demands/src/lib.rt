@@ -1,2 +1,3 @@
-// What follows from the contracts of `poisson` alone: that no second outcome meets them, demand 3, and that 01's cheats are shut out. It is in specs/; no program needs it, so no
-// function stands here, and a change of the call's code is checked without it.
+// The three demands of the mission, of what a call leaves: specs/Demand1, Demand2 and Demand3 say them, proofs/Demand1, Demand2 and Demand3 prove them of
+// whatever meets the contracts of `poisson` and `alone`; and 01's cheats are shut out (proofs/Cheats). No program needs it, so no function stands here, and
+// the call's code is checked without it.

@@ -1,5 +1,5 @@
-// Document 01, "What crosses the counter": "unused result elements and all scratch are zero on return". The one ending of every call, refused or accepted: a refusal
-// has no mesh, so all of its result elements are unused. The Rust has none: its vectors are dropped.
+// Document 01, "What crosses the counter": "unused result elements and all scratch are zero on return". The one ending of every call, refused or accepted: a
+// refusal has no mesh, so all of its result elements are unused. The Rust has none: its vectors are dropped.
 ghost use Rattle.ending.specs.Ending.{Cleared, Tidied};
 
 // Clears all scratch, whole slices, also where they are longer than stated.
@@ -14,7 +14,29 @@ pub fn clear_scratch(
     edges: &mut [u32],
     distances: &mut [f32],
 )
-    ensures { λ _. ⌜ Cleared (now (s0 .entry)) (now (s0 .exit)) (now (s1 .entry)) (now (s1 .exit)) (now (s2 .entry)) (now (s2 .exit)) (now (s3 .entry)) (now (s3 .exit)) (now (s4 .entry)) (now (s4 .exit)) (now (s5 .entry)) (now (s5 .exit)) (now (s6 .entry)) (now (s6 .exit)) (now (edges .entry)) (now (edges .exit)) (now (distances .entry)) (now (distances .exit)) ⌝ }
+    ensures { λ _. ⌜ Cleared
+        (record {
+          s0 = now (s0 .entry);
+          s1 = now (s1 .entry);
+          s2 = now (s2 .entry);
+          s3 = now (s3 .entry);
+          s4 = now (s4 .entry);
+          s5 = now (s5 .entry);
+          s6 = now (s6 .entry);
+          edges = now (edges .entry);
+          distances = now (distances .entry);
+        })
+        (record {
+          s0 = now (s0 .exit);
+          s1 = now (s1 .exit);
+          s2 = now (s2 .exit);
+          s3 = now (s3 .exit);
+          s4 = now (s4 .exit);
+          s5 = now (s5 .exit);
+          s6 = now (s6 .exit);
+          edges = now (edges .exit);
+          distances = now (distances .exit);
+        }) ⌝ }
 {
     lists::clear_f32(s0);
     lists::clear_f32(s1);
@@ -43,7 +65,37 @@ pub fn tidy(
     edges: &mut [u32],
     distances: &mut [f32],
 )
-    ensures { λ _. ⌜ Tidied v w (now (vertices .entry)) (now (vertices .exit)) (now (faces .entry)) (now (faces .exit)) (now (s0 .entry)) (now (s0 .exit)) (now (s1 .entry)) (now (s1 .exit)) (now (s2 .entry)) (now (s2 .exit)) (now (s3 .entry)) (now (s3 .exit)) (now (s4 .entry)) (now (s4 .exit)) (now (s5 .entry)) (now (s5 .exit)) (now (s6 .entry)) (now (s6 .exit)) (now (edges .entry)) (now (edges .exit)) (now (distances .entry)) (now (distances .exit)) ⌝ }
+    ensures { λ _. ⌜ Tidied v w
+        (record {
+          vertices = now (vertices .entry);
+          faces = now (faces .entry);
+          scratch = record {
+            s0 = now (s0 .entry);
+            s1 = now (s1 .entry);
+            s2 = now (s2 .entry);
+            s3 = now (s3 .entry);
+            s4 = now (s4 .entry);
+            s5 = now (s5 .entry);
+            s6 = now (s6 .entry);
+            edges = now (edges .entry);
+            distances = now (distances .entry);
+          };
+        })
+        (record {
+          vertices = now (vertices .exit);
+          faces = now (faces .exit);
+          scratch = record {
+            s0 = now (s0 .exit);
+            s1 = now (s1 .exit);
+            s2 = now (s2 .exit);
+            s3 = now (s3 .exit);
+            s4 = now (s4 .exit);
+            s5 = now (s5 .exit);
+            s6 = now (s6 .exit);
+            edges = now (edges .exit);
+            distances = now (distances .exit);
+          };
+        }) ⌝ }
 {
     lists::clear_from_f32(vertices, v);
     lists::clear_from_u32(faces, w);

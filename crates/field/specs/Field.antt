@@ -4,8 +4,9 @@ use mathlib.Core.Bool.{cond}
 use mathlib.Core.List.{List, foldl}
 use Prim.Native.Nat.{ℕ, _+_, _-_, _*_}
 use lib.ListN.{set}
-use lib.Ieee.{Float, binary32, binary64, ofBits, neg, add, sub, mul, div}
+use lib.Ieee.{Float, binary32, binary64, neg, add, sub, mul, div}
 use Rattle.lists.specs.Lists.{tabulate, at, zero32, zeros32, foldTo}
+use Rattle.numbers.specs.Constants.{minusZero32, two32}
 use Rattle.numbers.specs.Arithmetic.{narrowed}
 use Rattle.grid.specs.declared.Grid.{Grid}
 use Rattle.grid.specs.declared.Cell.{Cell}
@@ -35,9 +36,6 @@ splatted g ps a = foldl (pointAdded g a) (zeros32 (allNodes g)) ps
 
 -- ---- the right side
 
-abbrev pub two32 : Float
-two32 = ofBits binary32 0x4000_0000
-
 -- (next - previous)/(2·h), along an axis whose neighbours are `stride` numbers apart
 unfoldable pub slopeAt : (h : Float) (v : List Float) (q stride : ℕ) → Float
 slopeAt h v q stride = div binary32 (sub binary32 (at v (q + stride)) (at v (q - stride))) (mul binary32 two32 h)
@@ -45,7 +43,7 @@ slopeAt h v q stride = div binary32 (sub binary32 (at v (q + stride)) (at v (q -
 -- the sum over axes 0, 1, 2, from -0.0: x, y, z are the field's components
 unfoldable pub divergenceAt : (n : ℕ) (h : Float) (x y z : List Float) (q : ℕ) → Float
 divergenceAt n h x y z q =
-    add binary32 (add binary32 (add binary32 (neg zero32) (slopeAt h x q (n * n))) (slopeAt h y q n)) (slopeAt h z q 1)
+    add binary32 (add binary32 (add binary32 minusZero32 (slopeAt h x q (n * n))) (slopeAt h y q n)) (slopeAt h z q 1)
 
 -- 0 on boundary nodes, else ((-h)·h)·sum
 unfoldable pub rightSideAt : (n : ℕ) (h : Float) (x y z : List Float) (q : ℕ) → Float

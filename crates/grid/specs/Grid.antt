@@ -6,9 +6,10 @@ use Prim.Native.Nat.{ℕ, zero, suc, _+_, _-_, _*_, _/_, _%_, _^_, _≤_, _<_, m
 use lib.IntN.{pos}
 use lib.Dec.{eqb}
 use lib.ListN.{getD}
-use lib.Ieee.{Float, binary64, ofBits, ofInt, toUnsigned, neg, add, sub, mul, div}
+use lib.Ieee.{Float, binary64, ofInt, toUnsigned, add, sub, mul, div}
 use Rattle.lists.specs.Lists.{at, foldTo}
-use Rattle.numbers.specs.Arithmetic.{one64, floored, clamped}
+use Rattle.numbers.specs.Constants.{zero64, minusZero64, one64}
+use Rattle.numbers.specs.Arithmetic.{floored, clamped}
 use Rattle.closed.specs.Grid.{node}
 use Rattle.grid.specs.declared.Grid.{Grid}
 use Rattle.grid.specs.declared.Lattice.{Lattice}
@@ -95,7 +96,7 @@ latticeOf g =
 
 -- u = (p-origin)/h, clamped to 0..n-1
 unfoldable pub placed : (n : ℕ) (origin h p : Float) → Float
-placed n origin h p = clamped (div binary64 (sub binary64 p origin) h) (ofBits binary64 0) (ofInt binary64 (pos (n - 1)))
+placed n origin h p = clamped (div binary64 (sub binary64 p origin) h) zero64 (ofInt binary64 (pos (n - 1)))
 
 -- the cell: the floor of u, at most n-2. A NaN as a whole number is 0
 abbrev pub cellOf : (n : ℕ) (u : Float) → ℕ
@@ -155,7 +156,7 @@ withCorner n values q s c = add binary64 s (mul binary64 (weightAt q c) (at valu
 
 -- the first c corners, in corner order from -0.0; a sample takes all eight
 unfoldable pub sumTo : (n : ℕ) (values : List Float) (q : Cell) (c : ℕ) → Float
-sumTo n values q c = foldTo (withCorner n values q) (neg (ofBits binary64 0)) c
+sumTo n values q c = foldTo (withCorner n values q) minusZero64 c
 
 unfoldable pub sampled : (g : Grid) (values p : List Float) → Float
 sampled g values p = sumTo (g .nodes) values (cellAt g p) 8

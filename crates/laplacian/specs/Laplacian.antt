@@ -3,15 +3,13 @@
 use mathlib.Core.Bool.{cond}
 use mathlib.Core.List.{List}
 use Prim.Native.Nat.{ℕ, _+_, _-_, _*_}
-use lib.Ieee.{Float, binary32, ofBits, sub, mul}
+use lib.Ieee.{Float, binary32, sub, mul}
+use Rattle.numbers.specs.Constants.{six32}
 use Rattle.lists.specs.Lists.{tabulate, at, zero32}
 use Rattle.grid.specs.declared.Grid.{Grid}
 use Rattle.grid.specs.Grid.{allNodes, boundaryNode}
 
 -- ---- A x = 6x minus six neighbours, subtracted -x,+x,-y,+y,-z,+z; 0 on the boundary
-
-abbrev pub six32 : Float
-six32 = ofBits binary32 0x40C0_0000
 
 -- at node q, whose neighbours along x, y and z are plane, row and 1 numbers away
 abbrev pub stencilAt : (plane row : ℕ) (x : List Float) (q : ℕ) → Float

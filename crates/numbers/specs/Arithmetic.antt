@@ -4,7 +4,8 @@ use Prim.Native.Nat.{ℕ, zero, suc, _+_, _-_, _*_, _/_, _%_, _^_, compare}
 use mathlib.Core.Bool.{Bool, true, false, _||_, cond}
 use lib.IntN.{ℤ, pos}
 use lib.Dec.{eqb, leb}
-use lib.Ieee.{Float, nan, inf, fin, Format, binary32, binary64, prec, low, up, down, size, nearest, units, round, ofBits, ofInt, sub, mul, div, lt, isNan}
+use lib.Ieee.{Float, nan, inf, fin, Format, binary32, binary64, prec, low, up, down, size, nearest, units, round, ofInt, sub, mul, div, lt, isNan}
+use Rattle.numbers.specs.Constants.{one64, sixtyFour64}
 
 -- ---- square root: IEEE 754-2019's squareRoot, one definition for both formats
 
@@ -91,12 +92,6 @@ abbrev pub largest : Float → Float → Float
 largest x y = cond (isNan x || lt x y) y x
 
 -- ---- the exponential of -x, for every f64 x: u = x/64; s = 1; for m = 8 down to 1, s becomes 1 - (u·s)/m; s is squared six times, and narrowed
-
-abbrev pub one64 : Float
-one64 = ofBits binary64 0x3FF0_0000_0000_0000
-
-abbrev pub sixtyFour64 : Float
-sixtyFour64 = ofBits binary64 0x4050_0000_0000_0000
 
 -- s becomes 1 - (u·s)/m, for m from the number given down to 1
 unfoldable pub series : Float → ℕ → Float → Float

@@ -1,5 +1,8 @@
 -- Document 01's Arithmetic: the definitions, then what is proved of them.
+pub mod Constants
+pub mod ConstantValues
 pub mod Arithmetic
+pub mod Ieee754
 pub mod NanTest
 pub mod Opposite
 pub mod Whole
@@ -31,6 +34,6 @@ pub mod ClosestAdd
 pub mod NarrowPattern
 pub mod RoundNearest
 pub mod RoundOverflow
-pub mod NarrowNearest
+pub mod ByTheStandard
 pub mod SumOfSquares
 pub mod RootSquares

@@ -236,8 +236,8 @@ module _ (x : Float) (F : T (fits binary64 x)) (N : isNan x ≡ false) where
     pub narrowed-is : ofBits binary32 p ≡ narrowed x
     narrowed-is = ap (ofBits binary32) (sym pattern-is) ∙ ofBits-toBits binary32 (narrowed x) (narrowed-fits x)
 
-    pub no-nan : T (not (nanBits binary32 p))
-    no-nan = subst (λ (c : Bool). T (not c)) (sym (nanBits-is binary32 p ∙ ap isNan narrowed-is ∙ narrowed-nan x ∙ N)) tt
+    pub narrowed-no-nan : T (not (nanBits binary32 p))
+    narrowed-no-nan = subst (λ (c : Bool). T (not c)) (sym (nanBits-is binary32 p ∙ ap isNan narrowed-is ∙ narrowed-nan x ∙ N)) tt
 
 -- ---- the test for a NaN, and what a NaN gives
 

@@ -1,45 +1,32 @@
--- IEEE 754's squareRoot: `rooted f x` is the value of the format f that is nearest to the infinitely precise root of x (`rooted-nearest`), and the only
--- one (`rooted-only`). There is no tie: every other value is strictly further from √x.
+-- The root of a value x above zero: `rooted f x` is the value of the format f that is nearest to √x (`rooted-nearest`), and the only one (`rooted-only`).
+-- There is no tie: every other value is strictly further from √x (`rooted-no-tie`). `Ieee754` has the statement, `ByTheStandard` the cases that are left.
 -- r is nearer to √x than a larger y where √x lies below their middle (r + y) / 2, and than a smaller y where it lies above. In units of the format's
 -- smallest value 2 ^ -low, with x = n / 4 ^ low, r = R units and y = Y units, both sides squared, that compares 4 * n with (R + Y) ^ 2. Assumes nothing.
 use mathlib.Core.Path.{_≡_, refl, sym, ap, _∙_, subst}
 use mathlib.Core.Logic.{_⊎_, inl, inr}
-use Prim.Native.Nat.{ℕ, zero, suc, _+_, _-_, _*_, _/_, _%_, _^_, _≤_, _<_, compare, Ordering, Ordering·lt, Ordering·eq, Ordering·gt}
-use native.Mathlib.Nat.{le-antisymm, le-trans, le-of-eq, le-of-suc-le-suc, lt-of-lt-of-le, lt-of-le-of-lt, lt-of-not-le, not-le-of-lt, eq-zero-or-pos, zero-lt-suc, one-mul, mul-one, mul-pos, mul-comm, mul-assoc, mul-right-comm, mul-mul-mul-comm, add-mul, mul-le-mul-left, mul-le-mul-right, le-mul-of-pos-right, mul-lt-mul-of-pos-right, lt-of-mul-lt-mul-right, eq-of-mul-eq-mul-right, mul-div-cancel, div-mul-le-self, lt-div-mul-add}
+use Prim.Native.Nat.{ℕ, suc, _+_, _-_, _*_, _/_, _%_, _^_, _≤_, _<_, compare, Ordering, Ordering·lt, Ordering·eq, Ordering·gt}
+use native.Mathlib.Nat.{le-trans, le-of-eq, le-of-suc-le-suc, lt-of-lt-of-le, lt-of-le-of-lt, lt-of-not-le, not-le-of-lt, eq-zero-or-pos, one-mul, mul-one, mul-pos, mul-comm, mul-assoc, mul-right-comm, mul-mul-mul-comm, mul-left-comm, add-comm, add-mul, mul-le-mul-right, le-mul-of-pos-right, mul-lt-mul-of-pos-right, lt-of-mul-lt-mul-right, eq-of-mul-eq-mul-right, mul-div-cancel, div-mul-le-self, lt-div-mul-add}
 use native.Mathlib.Omega.{arith}
 use mathlib.Core.Bool.{Bool, true, false, not}
 use lib.IntN.{ℤ}
 use lib.Dec.{T, ltb, ltb→lt, nltb→le}
 use lib.Pow.{pow-add, pow-pos, pow-mono, pow-lt}
-use lib.Ieee.{Float, nan, inf, fin, Format, prec, emax, low, up, down, size, nearest, fits}
+use lib.Ieee.{Float, fin, Format, prec, emax, low, up, down, size, nearest, fits}
 use lib.Ieee.Digits.{size-le}
-use lib.Ieee.Fits.{two, reach, two-le-pos, up-pos, down-pos}
+use lib.Ieee.Fits.{two, reach, two-le-pos, down-pos}
 use lib.Ieee.Exact.{HasValue, units-val}
-use lib.Ieee.Positive.{positive, positive-of-value, first-pos}
 use Rattle.numbers.specs.Arithmetic.{whole, rootRounded, scaled, rooted}
-use Rattle.numbers.specs.Binary.{double, shift-twice, Cmp, cmp}
+use Rattle.numbers.specs.Ieee754.{Size, rootOf, Value, atMiddle, TiesToEven}
+use Rattle.numbers.specs.Binary.{double, shift-twice, Cmp, cmp, compare-lt, compare-gt}
 use Rattle.numbers.specs.Squares.{square-sum, sum-square, square-mono, square-lt}
 use Rattle.numbers.specs.RootWhole.{whole-is, whole-lt, dropped, middle, kept, rootRounded-is}
-use Rattle.numbers.specs.RootOrder.{quotient-ge, kept-le, kept-ge}
-use Rattle.numbers.specs.Spacing.{gap, Held, held, place, place-of, value-once, Digits, digits-of}
+use Rattle.numbers.specs.RootOrder.{quotient-ge, kept-le}
+use Rattle.numbers.specs.Spacing.{gap, Held, held, place, place-of, Digits, digits-of}
 use Rattle.numbers.specs.Patterns.{same-value, units-fits}
 
--- ---- the statement
-
 -- R is strictly nearer to √n than Y is, or it is Y: |R - √n| < |Y - √n|
-abbrev pub Nearer : ℕ → ℕ → ℕ → Type 0
+abbrev Nearer : ℕ → ℕ → ℕ → Type 0
 Nearer n R Y = (R < Y → 4 * n < (R + Y) * (R + Y)) × (Y < R → (R + Y) * (R + Y) < 4 * n)
-
--- r is the value of the format f that is nearest to √x, for an x above zero: x is n / 4 ^ low exactly, r is R units and above zero, and every value y of
--- the format that is not below zero is r or is further away. (One below zero is further away than 0 is.)
-pub record NearestRoot (f : Format) (x r : Float) : Type 0 where
-  pub n : ℕ
-  pub exact : HasValue x false n (2 ^ low f * 2 ^ low f)
-  pub R : ℕ
-  pub value : HasValue r false R (2 ^ low f)
-  pub fit : T (fits f r)
-  pub above : T (positive r)
-  pub best : (y : Float) (Y : ℕ) → T (fits f y) → HasValue y false Y (2 ^ low f) → Nearer n R Y
 
 -- ---- l ≤ √n < h, the middle of the two is m / 2, and y does not lie between them
 module _ (n l h m y : ℕ) (mid : m ≡ l + h) (low-square : l * l ≤ n) (high-square : n < h * h) (step : l < y → h ≤ y) where
@@ -141,30 +128,12 @@ module _ (f : Format) (n d i : ℕ) (D : d < 2 ^ prec f) (N : n ≡ d * 2 ^ i) (
       let q = whole n / 2 ^ k in
       chosen k q (compare (4 * n) (middle q k * middle q k)) (quotient-ge f n) (low-is n (2 ^ k)) (high-is n (2 ^ k) (pow-pos k)) (cmp (4 * n) (middle q k * middle q k))
 
--- it is no larger than the power of two above the root, and above zero
+-- it is no larger than the power of two above the root
 result-le : (f : Format) (n t : ℕ) → prec f ≤ t → n < 2 ^ t * 2 ^ t → result f n ≤ 2 ^ t
 result-le f n t L h =
     let k = dropped f n in
     let s : size (whole n) ≤ t = size-le (whole n) t (whole-lt n (2 ^ t) h) in
     le-trans (mul-le-mul-right (2 ^ k) (kept-le f n)) (le-trans (le-of-eq (sym (pow-add 2 (prec f) k))) (pow-mono (let z : prec f + k ≤ t = omega arith in z)))
-
-result-pos : (f : Format) (n : ℕ) → 0 < n → 0 < result f n
-result-pos f n N =
-    let k = dropped f n in
-    mul-pos (lt-of-lt-of-le (first (eq-zero-or-pos k)) (kept-ge n k)) (pow-pos k)
-  where
-    some : 0 < whole n
-    some = lt-of-not-le none
-      where
-        none : whole n ≤ 0 → ⊥
-        none g =
-            let z : whole n ≡ 0 = omega arith in
-            let y : n < (0 + 1) * (0 + 1) = subst (λ (t : ℕ). n < (t + 1) * (t + 1)) z (whole-is n .1) in
-            omega arith
-
-    first : (dropped f n ≡ 0) ⊎ (0 < dropped f n) → 0 < whole n / 2 ^ dropped f n
-    first (inl e) = subst (λ (t : ℕ). 0 < whole n / 2 ^ t) (sym e) (let o = some in let z : 0 < whole n / 1 = omega arith in z)
-    first (inr p) = lt-of-lt-of-le (pow-pos (prec f - 1)) (quotient-ge f n p)
 
 -- ---- x * 4 ^ low is a whole number, m * 2 ^ i for the significand m of x
 module _ (f : Format) (m : ℕ) (e : ℤ) (H : Held f m e) where
@@ -188,7 +157,7 @@ module _ (f : Format) (m : ℕ) (e : ℤ) (H : Held f m e) where
   exactly : m * up e * (l * l) ≡ scaled f m e * down e
   exactly = spread ∙ ap (λ (y : ℕ). y * down e) (sym scaled-is)
 
-  -- the root is far below the infinity, and above zero
+  -- the root is far below the infinity
   room : (e l : ℕ) → 1 ≤ e → suc e + (l + l) ≤ l + e + (l + e)
   room e l h = omega arith
 
@@ -218,70 +187,91 @@ module _ (f : Format) (m : ℕ) (e : ℤ) (H : Held f m e) where
       subst (λ (r : Float). HasValue r false (result f n) (2 ^ low f)) (sym (rootRounded-is f n))
       (units-val f false (kept n (dropped f n)) (dropped f n) (lt-of-le-of-lt h (pow-lt (let z : low f + emax f < low f + suc (emax f) = omega arith in z))))
 
-  scaled-pos : 0 < m → 0 < scaled f m e
-  scaled-pos M = first-pos (scaled f m e) (down e) (subst (λ (y : ℕ). 0 < y) exactly (mul-pos (mul-pos M (up-pos e)) (mul-pos (pow-pos (low f)) (pow-pos (low f)))))
-
   near : (Y : ℕ) → Digits f Y → Nearer (scaled f m e) (result f (scaled f m e)) Y
   near Y d =
       let n = scaled f m e in
       subst (λ (t : ℕ). Nearer n (result f n) t) (sym (d .is)) (nearer f n m raised (H .digits) scaled-is (d .a) (d .j) (d .few))
 
-  nearest-at : 0 < m → NearestRoot f (fin false m e) (rootRounded f (scaled f m e))
-  nearest-at M =
+  -- ---- in the standard's terms: √x against the middle of R and Y units is 4 * n against (R + Y) ^ 2, both times `down e`
+  abbrev r : Float
+  r = rootRounded f (scaled f m e)
+
+  abbrev R : ℕ
+  R = result f (scaled f m e)
+
+  abbrev E : Size
+  E = rootOf (m * up e) (down e)
+
+  four-n : m * up e * (2 * l * (2 * l)) ≡ 4 * scaled f m e * down e
+  four-n =
+      ap (λ (y : ℕ). m * up e * y) (mul-mul-mul-comm 2 l 2 l)
+      ∙ mul-left-comm (m * up e) 4 (l * l)
+      ∙ ap (λ (y : ℕ). 4 * y) exactly
+      ∙ sym (mul-assoc 4 (scaled f m e) (down e))
+
+  held-root : Value f false r R
+  held-root =
       let n = scaled f m e in
-      record {
-        n = n;
-        exact = (refl, exactly);
-        R = result f n;
-        value = root-value;
-        fit = subst (λ (r : Float). T (fits f r)) (sym (rootRounded-is f n)) (units-fits f false (kept n (dropped f n)) (dropped f n) (kept-le f n));
-        above = positive-of-value (rootRounded f n) (result f n) (2 ^ low f) root-value (result-pos f n (scaled-pos M));
-        best = λ y Y F G. near Y (digits-of f y false Y F G);
-      }
+      (subst (λ (r : Float). T (fits f r)) (sym (rootRounded-is f n)) (units-fits f false (kept n (dropped f n)) (dropped f n) (kept-le f n)), root-value)
 
--- ---- the theorems
+  module _ (y : Float) (Y : ℕ) (v : Value f false y Y) where
+    apart : Nearer (scaled f m e) R Y
+    apart = near Y (digits-of f y false Y (v .0) (v .1))
 
-pub rooted-nearest : (f : Format) (x : Float) → T (fits f x) → T (positive x) → NearestRoot f x (rooted f x)
-unfolding rooted
-rooted-nearest f nan h p = absurd p
-rooted-nearest f (inf s) h p = absurd p
-rooted-nearest f (fin true m e) h p = absurd p
-rooted-nearest f (fin false zero e) h p = absurd p
-rooted-nearest f (fin false (suc m) e) h p = nearest-at f (suc m) e (held f false m e h) (zero-lt-suc m)
+    if-larger : R < Y → atMiddle f E R Y ≡ Ordering·lt
+    if-larger h = compare-lt _ _ (rw four-n (mul-lt-mul-of-pos-right (apart .0 h) (down-pos e)))
 
--- two values that are nearest to one root are the same
-pub nearest-unique : (f : Format) (x r s : Float) → NearestRoot f x r → NearestRoot f x s → r ≡ s
-nearest-unique f x r s a b = same-value f r s false (a .R) (a .fit) (b .fit) (a .value) (subst (λ (y : ℕ). HasValue s false y (2 ^ low f)) (sym size-same) (b .value))
-  where
-    same : a .n ≡ b .n
-    same = value-once x false false (2 ^ low f * 2 ^ low f) (a .n) (b .n) (a .exact) (b .exact)
+    if-smaller : Y < R → atMiddle f E R Y ≡ Ordering·gt
+    if-smaller h = compare-gt _ _ (rw four-n (mul-lt-mul-of-pos-right (apart .1 h) (down-pos e)))
 
-    clash : (n m p q : ℕ) → n ≡ m → 4 * n < (p + q) * (p + q) → (q + p) * (q + p) < 4 * m → ⊥
-    clash n m p q e u v = let w : (q + p) * (q + p) ≡ (p + q) * (p + q) = ap (λ (y : ℕ). y * y) (let z : q + p ≡ p + q = omega arith in z) in omega arith
-
-    a-best : Nearer (a .n) (a .R) (b .R)
-    a-best = a .best s (b .R) (b .fit) (b .value)
-
-    b-best : Nearer (b .n) (b .R) (a .R)
-    b-best = b .best r (a .R) (a .fit) (a .value)
-
-    a-least : b .R ≤ a .R
-    a-least = nltb→le (a .R) (b .R) (go (ltb (a .R) (b .R)) (ltb→lt (a .R) (b .R)))
+    never-level : (R ≡ Y → ⊥) → atMiddle f E R Y ≡ Ordering·eq → ⊥
+    never-level other h = go (compare R Y) (cmp R Y)
       where
-        go : (c : Bool) → (T c → a .R < b .R) → T (not c)
-        go false h = tt
-        go true h = absurd (clash (a .n) (b .n) (a .R) (b .R) same (a-best .0 (h tt)) (b-best .1 (h tt)))
+        go : (o : Ordering) → Cmp o R Y → ⊥
+        go Ordering·lt l = let a = if-larger l in let z : _≡_ {A = ℕ} 0 1 = cc in omega arith
+        go Ordering·gt l = let a = if-smaller l in let z : _≡_ {A = ℕ} 0 1 = cc in omega arith
+        go Ordering·eq d = other d
 
-    b-least : a .R ≤ b .R
-    b-least = nltb→le (b .R) (a .R) (go (ltb (b .R) (a .R)) (ltb→lt (b .R) (a .R)))
-      where
-        go : (c : Bool) → (T c → b .R < a .R) → T (not c)
-        go false h = tt
-        go true h = absurd (clash (b .n) (a .n) (b .R) (a .R) (sym same) (b-best .0 (h tt)) (a-best .1 (h tt)))
+  nearest-at : TiesToEven f false E r
+  nearest-at = record {
+    R = R;
+    value = held-root;
+    larger = λ y Y v l h. (let a = if-larger y Y v l in let z : _≡_ {A = ℕ} 0 1 = cc in omega arith);
+    smaller = λ y Y v l h. (let a = if-smaller y Y v l in let z : _≡_ {A = ℕ} 0 1 = cc in omega arith);
+    tie = λ y Y v other h. absurd (never-level y Y v other h);
+  }
 
-    size-same : a .R ≡ b .R
-    size-same = le-antisymm b-least a-least
+  only-at : (v : Float) → TiesToEven f false E v → v ≡ r
+  only-at v g = go (compare R (g .R)) (cmp R (g .R))
+    where
+      same-middle : atMiddle f E (g .R) R ≡ atMiddle f E R (g .R)
+      same-middle = ap (λ (x : ℕ). E x (2 * 2 ^ low f)) (add-comm (g .R) R)
 
--- so `rooted` is the only one
-pub rooted-only : (f : Format) (x r : Float) → T (fits f x) → T (positive x) → NearestRoot f x r → r ≡ rooted f x
-rooted-only f x r F p n = nearest-unique f x r (rooted f x) n (rooted-nearest f x F p)
+      go : (o : Ordering) → Cmp o R (g .R) → v ≡ r
+      go Ordering·eq d =
+          same-value f v r false (g .R) (g .value .0) (held-root .0) (g .value .1) (subst (λ (x : ℕ). HasValue r false x (2 ^ low f)) d root-value)
+      go Ordering·lt l = absurd (g .smaller r R held-root l (same-middle ∙ if-larger v (g .R) (g .value) l))
+      go Ordering·gt l = absurd (g .larger r R held-root l (same-middle ∙ if-smaller v (g .R) (g .value) l))
+
+-- ---- the theorems, for a value x = m * 2 ^ e of the format that is above zero
+
+module _ (f : Format) (m : ℕ) (e : ℤ) (F : T (fits f (fin false (suc m) e))) where
+  abbrev x : Float
+  x = fin false (suc m) e
+
+  abbrev precisely : Size
+  precisely = rootOf (suc m * up e) (down e)
+
+  pub rooted-nearest : TiesToEven f false precisely (rooted f x)
+  unfolding rooted
+  rooted-nearest = nearest-at f (suc m) e (held f false m e F)
+
+  -- two values that are nearest to one root are the same
+  pub rooted-only : (r : Float) → TiesToEven f false precisely r → r ≡ rooted f x
+  unfolding rooted
+  rooted-only r g = only-at f (suc m) e (held f false m e F) r g
+
+  -- every other value is strictly further from √x
+  pub rooted-no-tie : (y : Float) (Y : ℕ) → Value f false y Y → (rooted-nearest .R ≡ Y → ⊥) → atMiddle f precisely (rooted-nearest .R) Y ≡ Ordering·eq → ⊥
+  unfolding rooted rooted-nearest nearest-at
+  rooted-no-tie y Y v other h = never-level f (suc m) e (held f false m e F) y Y v other h

@@ -4,8 +4,7 @@ use mathlib.Core.Path.{_≡_, refl, _∙_}
 use mathlib.Core.Logic.{_⊎_, inl, inr}
 use mathlib.Core.Bool.{Bool, true, false, true≢false}
 use Prim.Native.Nat.{ℕ, zero, suc}
-use native.Mathlib.Omega.{arith}
-use lib.Dec.{T, lt→ltb}
+use lib.Dec.{T}
 use lib.Ieee.{Float, nan, inf, fin, Format, lt, eq, fits, isNan}
 use lib.Ieee.Bits.{is-true}
 use lib.Ieee.Exact.{HasValue}
@@ -36,8 +35,8 @@ root-held f x g = go x (g .kind) (g .fit)
     go (inf false) far h = unfold rooted in record { kind = far; fit = inf-fits f false }
     go (fin false zero e) some h = unfold rooted in record { kind = some; fit = h }
     go (fin false (suc m) e) some h =
-        let r = rooted-nearest f (fin false (suc m) e) h (lt→ltb 0 (suc m) (omega arith)) in
-        record { kind = of-value _ _ _ (r .value); fit = r .fit }
+        let r = rooted-nearest f m e h in
+        record { kind = of-value _ _ _ (r .value .1); fit = r .value .0 }
 
 value-number : (x : Float) (a c : ℕ) → HasValue x false a c → isNan x ≡ false
 unfolding isNan
@@ -53,8 +52,8 @@ root-nan f x g = go x (g .kind) (g .fit)
     go (inf false) far h = unfold rooted in refl
     go (fin false zero e) some h = unfold rooted in refl
     go (fin false (suc m) e) some h =
-        let r = rooted-nearest f (fin false (suc m) e) h (lt→ltb 0 (suc m) (omega arith)) in
-        value-number _ _ _ (r .value) ∙ (unfold isNan in refl)
+        let r = rooted-nearest f m e h in
+        value-number _ _ _ (r .value .1) ∙ (unfold isNan in refl)
 
 -- ---- the order
 

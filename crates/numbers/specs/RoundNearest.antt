@@ -4,45 +4,27 @@
 -- are q and q + 1 times 2 ^ k units, for n = q * u + rest, and the rest decides. `RoundOverflow` says where the result is finite. Assumes nothing.
 use mathlib.Core.Path.{_≡_, refl, sym, ap, _∙_, subst}
 use mathlib.Core.Logic.{_⊎_, inl, inr}
-use mathlib.Core.Bool.{Bool, true, false, not, Bool·beq, cond}
+use mathlib.Core.Bool.{Bool, true, false, not, cond}
 use Prim.Native.Nat.{ℕ, suc, _+_, _-_, _*_, _/_, _%_, _^_, _≤_, _<_, compare, Ordering, Ordering·lt, Ordering·eq, Ordering·gt}
-use native.Mathlib.Nat.{le-trans, le-of-eq, le-antisymm, eq-zero-or-pos, zero-mul, one-mul, suc-mul, mul-comm, mul-assoc, mul-pos, add-mul, mul-le-mul-right, eq-of-mul-eq-mul-right, div-div-eq-div-mul, le-div-iff-mul-le, div-add-mod', mod-lt}
+use native.Mathlib.Nat.{le-trans, le-of-eq, eq-zero-or-pos, one-mul, suc-mul, mul-comm, mul-assoc, mul-left-comm, mul-pos, add-comm, add-mul, mul-le-mul-right, mul-lt-mul-of-pos-right, eq-of-mul-eq-mul-right, div-div-eq-div-mul, le-div-iff-mul-le, div-add-mod', mod-lt}
 use native.Mathlib.Omega.{arith}
-use lib.Dec.{T, ltb, eqb, ltb→lt, nltb→le, eqb→eq, eqb-refl}
+use lib.Dec.{T, ltb, ltb→lt, nltb→le}
 use lib.Pow.{pow-add, pow-pos}
-use lib.Ieee.{Float, Format, prec, low, size, nearest, odd, inf, units, round, fits, hid, ones, top, toBits}
+use lib.Ieee.{Float, Format, prec, low, nearest, odd, inf, units, round, hid, ones, top, toBits}
 use lib.Ieee.Digits.{size-reaches}
 use lib.Ieee.Fits.{two, two-le-pos, kept-lt, nearest-le, round-is, round-fits}
 use lib.Ieee.Exact.{HasValue, units-val}
 use lib.Ieee.Nearest.{nearest-ge}
 use lib.Ieee.Order.{drop, kept}
 use lib.Ieee.Scale.{finite, overflow}
+use Rattle.numbers.specs.Ieee754.{Size, fraction, Value, atMiddle, TiesToEven}
 use Rattle.numbers.specs.Binary.{double, Cmp, cmp}
 use Rattle.numbers.specs.Spacing.{gap, Digits, digits-of}
 use Rattle.numbers.specs.Patterns.{pattern, bits-of, same-value}
 
--- ---- the statement
-
--- the distance of a and b, and of ±a and ±b
-abbrev pub apart : ℕ → ℕ → ℕ
+-- the distance of a and b
+abbrev apart : ℕ → ℕ → ℕ
 apart a b = a - b + (b - a)
-
-abbrev pub away : Bool → ℕ → Bool → ℕ → ℕ
-away s a t b = cond (Bool·beq s t) (apart a b) (a + b)
-
--- how far ±Y units lie from the exact result ±num / den: in units of the format's smallest value 2 ^ -low, times den
-abbrev pub distance : Format → Bool → ℕ → ℕ → Bool → ℕ → ℕ
-distance f s num den t Y = away s (num * 2 ^ low f) t (Y * den)
-
--- r, of ±R units, is what roundTiesToEven delivers for the exact result ±num / den: no value y of the format, of ±Y units, is nearer (`best`); and where
--- another one is equally near, the last digit of r's significand, which is the lowest bit of its pattern, is 0 (`tie`)
-pub record TiesToEven (f : Format) (s : Bool) (num den : ℕ) (r : Float) : Type 0 where
-  pub R : ℕ
-  pub value : HasValue r s R (2 ^ low f)
-  pub fit : T (fits f r)
-  pub best : (y : Float) (t : Bool) (Y : ℕ) → T (fits f y) → HasValue y t Y (2 ^ low f) → distance f s num den s R ≤ distance f s num den t Y
-  pub tie : (y : Float) (t : Bool) (Y : ℕ) → T (fits f y) → HasValue y t Y (2 ^ low f)
-      → distance f s num den s R ≡ distance f s num den t Y → (R ≡ Y → ⊥) → toBits f r % 2 ≡ 0
 
 -- ---- which of the two multiples of u around q * u + rest is taken: q where the rest is at most a half, the next where it is at least a half, and at a half the even one
 
@@ -197,33 +179,25 @@ module _ (f : Format) (num den : ℕ) (D : 0 < den) where
             ge = q-ge;
           }
 
-  -- ---- values of the other sign are no nearer than 0 is
-  nil : Digits f 0
-  nil = record { a = 0; j = 0; few = pow-pos (prec f); is = refl }
+  -- ---- the statement's middle of R and Y units, over den: the exact result is on R's side of it where it is nearer to R
+  abbrev beyond : ℕ → ℕ → Ordering
+  beyond R Y = atMiddle f (fraction num den) R Y
 
-  near-zero : apart n (c * 2 ^ k * den) ≤ n
-  near-zero = let h = near 0 nil in let z = zero-mul den in omega arith
+  twice-n : num * (2 * 2 ^ low f) ≡ 2 * (num * 2 ^ low f)
+  twice-n = mul-left-comm num 2 (2 ^ low f)
 
-  best-at : (s t : Bool) (Y : ℕ) → Digits f Y → away s n s (c * 2 ^ k * den) ≤ away s n t (Y * den)
-  best-at true true Y d = near Y d
-  best-at false false Y d = near Y d
-  best-at true false Y d = let h = near-zero in omega arith
-  best-at false true Y d = let h = near-zero in omega arith
+  module _ (R Y : ℕ) where
+    says : Cmp (beyond R Y) (2 * n) (R * den + Y * den)
+    says = rw (twice-n, add-mul R Y den) (cmp (2 * n) (R * den + Y * den))
 
-  tie-zero : (Y : ℕ) → apart n (c * 2 ^ k * den) ≡ n + Y * den → (c * 2 ^ k ≡ Y → ⊥) → c % 2 ≡ 0
-  tie-zero Y e other = elim (eq-zero-or-pos Y) [
-    | inl z ↦
-        let y : Y * den ≡ 0 = ap (λ (x : ℕ). x * den) z ∙ zero-mul den in
-        let w : apart n (c * 2 ^ k * den) ≡ apart n (0 * den) = (let v = zero-mul den in omega arith) in
-        tied 0 nil w (λ (i : c * 2 ^ k ≡ 0). other (i ∙ sym z)) .even
-    | inr p ↦ absurd (let h = near-zero in let g : 0 < Y * den = mul-pos p D in let z : ⊥ = omega arith in z)
-  ]
+    not-past : apart n (R * den) ≤ apart n (Y * den) → R < Y → beyond R Y ≡ Ordering·gt → ⊥
+    not-past h l e = let b = mul-lt-mul-of-pos-right l D in let g = rw e at says in omega arith
 
-  even-at : (s t : Bool) (Y : ℕ) → Digits f Y → away s n s (c * 2 ^ k * den) ≡ away s n t (Y * den) → (c * 2 ^ k ≡ Y → ⊥) → c % 2 ≡ 0
-  even-at true true Y d e other = tied Y d e other .even
-  even-at false false Y d e other = tied Y d e other .even
-  even-at true false Y d e other = tie-zero Y e other
-  even-at false true Y d e other = tie-zero Y e other
+    not-short : apart n (R * den) ≤ apart n (Y * den) → Y < R → beyond R Y ≡ Ordering·lt → ⊥
+    not-short h l e = let b = mul-lt-mul-of-pos-right l D in let g = rw e at says in omega arith
+
+    at-middle : beyond R Y ≡ Ordering·eq → apart n (R * den) ≡ apart n (Y * den)
+    at-middle e = let g = rw e at says in omega arith
 
 -- ---- the lowest bit of a pattern is its significand's
 parity : (f : Format) (s : Bool) (k q : ℕ) → pattern f s k q % 2 ≡ q % 2
@@ -272,35 +246,54 @@ module _ (f : Format) (s : Bool) (num den : ℕ) (D : 0 < den) (F : T (finite (r
       let k = drop (prec f) (num * 2 ^ low f) den in
       ap (λ (x : ℕ). x % 2) (bits-of f r s q k (kept-le f num den D) (kept-ge f num den D) size-is) ∙ parity f s k q
 
-  pub round-nearest : TiesToEven f s num den r
+  held : Value f s r R
+  held = (round-fits f s num den, size-is)
+
+  abbrev E : Size
+  E = fraction num den
+
+  beats : (y : Float) (Y : ℕ) → Value f s y Y → apart (num * 2 ^ low f) (R * den) ≤ apart (num * 2 ^ low f) (Y * den)
+  beats y Y v = near f num den D Y (digits-of f y s Y (v .0) (v .1))
+
+  tied-with : (y : Float) (Y : ℕ) → Value f s y Y → (R ≡ Y → ⊥) → atMiddle f E R Y ≡ Ordering·eq → Tie f num den D Y
+  tied-with y Y v other e = tied f num den D Y (digits-of f y s Y (v .0) (v .1)) (at-middle f num den D R Y e) other
+
+  pub round-nearest : TiesToEven f s E r
   round-nearest = record {
     R = R;
-    value = size-is;
-    fit = round-fits f s num den;
-    best = λ y t Y G h. best-at f num den D s t Y (digits-of f y t Y G h);
-    tie = λ y t Y G h e other. last-digit ∙ even-at f num den D s t Y (digits-of f y t Y G h) e other;
+    value = held;
+    larger = λ y Y v. not-past f num den D R Y (beats y Y v);
+    smaller = λ y Y v. not-short f num den D R Y (beats y Y v);
+    tie = λ y Y v other e. last-digit ∙ tied-with y Y v other e .even;
   }
 
   -- any value that is as near as all others, and even at a tie, is that one
-  pub round-only : (v : Float) → TiesToEven f s num den v → v ≡ r
-  round-only v g = go (eqb R (g .R)) (eqb→eq R (g .R)) (λ (e : R ≡ g .R). subst (λ (x : ℕ). T (eqb R x)) e (eqb-refl R))
+  pub round-only : (v : Float) → TiesToEven f s E v → v ≡ r
+  round-only v g = go (compare R (g .R)) (cmp R (g .R))
     where
-      level : distance f s num den s R ≡ distance f s num den s (g .R)
-      level = le-antisymm (best-at f num den D s s (g .R) (digits-of f v s (g .R) (g .fit) (g .value))) (g .best r s R (round-fits f s num den) size-is)
+      same-middle : atMiddle f E (g .R) R ≡ atMiddle f E R (g .R)
+      same-middle = ap (λ (x : ℕ). E x (2 * 2 ^ low f)) (add-comm (g .R) R)
 
-      same-sign : (s : Bool) (a b y : ℕ) → away s a s b ≡ away s a s y → apart a b ≡ apart a y
-      same-sign true a b y e = e
-      same-sign false a b y e = e
+      -- two that differ and are both nearest are equally near: both last digits are even, and one is odd
+      level : (R < g .R) ⊎ (g .R < R) → (o : Ordering) → atMiddle f E R (g .R) ≡ o → atMiddle f E R (g .R) ≡ Ordering·eq
+      level side Ordering·eq e = e
+      level (inl l) Ordering·lt e = absurd (g .smaller r R held l (same-middle ∙ e))
+      level (inr l) Ordering·lt e = absurd (not-short f num den D R (g .R) (beats v (g .R) (g .value)) l e)
+      level (inl l) Ordering·gt e = absurd (not-past f num den D R (g .R) (beats v (g .R) (g .value)) l e)
+      level (inr l) Ordering·gt e = absurd (g .larger r R held l (same-middle ∙ e))
 
-      odd-and-even : (x : ℕ) → x ≡ 1 → x ≡ 0 → ⊥
-      odd-and-even x a b = omega arith
-
-      go : (b : Bool) → (T b → R ≡ g .R) → (R ≡ g .R → T b) → v ≡ r
-      go true h i = same-value f v r s (g .R) (g .fit) (round-fits f s num den) (g .value) (subst (λ (x : ℕ). HasValue r s x (2 ^ low f)) (h tt) size-is)
-      go false h i =
+      clash : (R < g .R) ⊎ (g .R < R) → (R ≡ g .R → ⊥) → ⊥
+      clash side other =
           let k = drop (prec f) (num * 2 ^ low f) den in
-          let t = tied f num den D (g .R) (digits-of f v s (g .R) (g .fit) (g .value)) (same-sign s (num * 2 ^ low f) (R * den) (g .R * den) level) i in
-          let bits : toBits f v ≡ pattern f s k (t .z) = bits-of f v s (t .z) k (t .le) (t .ge) (subst (λ (x : ℕ). HasValue v s x (2 ^ low f)) (t .is) (g .value)) in
+          let e = level side (atMiddle f E R (g .R)) refl in
+          let t = tied-with v (g .R) (g .value) other e in
+          let is : HasValue v s (t .z * 2 ^ k) (2 ^ low f) = subst (λ (x : ℕ). HasValue v s x (2 ^ low f)) (t .is) (g .value .1) in
+          let bits : toBits f v ≡ pattern f s k (t .z) = bits-of f v s (t .z) k (t .le) (t .ge) is in
           let odd : toBits f v % 2 ≡ 1 = ap (λ (x : ℕ). x % 2) bits ∙ parity f s k (t .z) ∙ t .odd in
-          let even : toBits f v % 2 ≡ 0 = g .tie r s R (round-fits f s num den) size-is (sym level) (λ (e : g .R ≡ R). i (sym e)) in
-          absurd (odd-and-even (toBits f v % 2) odd even)
+          let even : toBits f v % 2 ≡ 0 = g .tie r R held (λ (e : g .R ≡ R). other (sym e)) (same-middle ∙ e) in
+          omega arith
+
+      go : (o : Ordering) → Cmp o R (g .R) → v ≡ r
+      go Ordering·eq e = same-value f v r s (g .R) (g .value .0) (held .0) (g .value .1) (subst (λ (x : ℕ). HasValue r s x (2 ^ low f)) e size-is)
+      go Ordering·lt l = absurd (clash (inl l) (λ (e : R ≡ g .R). let z : ⊥ = omega arith in z))
+      go Ordering·gt l = absurd (clash (inr l) (λ (e : R ≡ g .R). let z : ⊥ = omega arith in z))

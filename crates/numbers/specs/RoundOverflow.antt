@@ -1,7 +1,7 @@
 -- IEEE 754's overflow, of `round` in either format: the result is an infinity exactly where the exact result is 2 ^ emax * (2 - 2 ^ -prec) in size or
 -- more (`round-infinite`, `round-finite`). That is the middle of the largest value, Q * 2 ^ last units with Q = 2 ^ prec - 1, and the next one,
 -- 2 ^ prec * 2 ^ last; and Q is odd, so a tie goes up. Assumes nothing.
-use mathlib.Core.Path.{_≡_, sym, ap, _∙_, subst}
+use mathlib.Core.Path.{_≡_, refl, sym, ap, _∙_, subst}
 use mathlib.Core.Logic.{inl, inr}
 use mathlib.Core.Bool.{Bool}
 use Prim.Native.Nat.{ℕ, suc, _+_, _-_, _*_, _/_, _%_, _^_, _≤_, _<_, compare}
@@ -16,13 +16,10 @@ use lib.Ieee.Exact.{HasValue, units-val}
 use lib.Ieee.Nearest.{closest}
 use lib.Ieee.Order.{drop, kept}
 use lib.Ieee.Scale.{finite, overflow}
+use Rattle.numbers.specs.Ieee754.{limit}
 use Rattle.numbers.specs.Binary.{double, size-gt, cmp}
 use Rattle.numbers.specs.Patterns.{units-inf}
 use Rattle.numbers.specs.RoundNearest.{Taken, taken, unit-pos, kept-le, kept-ge}
-
--- 2 ^ emax * (2 - 2 ^ -prec), for either format a whole number
-abbrev pub limit : Format → ℕ
-limit f = (2 ^ suc (prec f) - 1) * 2 ^ (emax f - prec f)
 
 -- ---- a fraction n / u compared with the middle Q + 1/2
 
@@ -91,6 +88,10 @@ reaches : (f : Format) → prec f ≤ emax f
 reaches binary32 = lit≤ tt
 reaches binary64 = lit≤ tt
 
+limit-is : (f : Format) → limit f ≡ (2 ^ suc (prec f) - 1) * 2 ^ (emax f - prec f)
+limit-is binary32 = refl
+limit-is binary64 = refl
+
 module _ (f : Format) where
   abbrev last : ℕ
   last = 2 * emax f - 1
@@ -114,6 +115,7 @@ module _ (f : Format) where
       let r = reaches f in
       let o = one in
       mul-comm 2 (limit f * 2 ^ low f)
+      ∙ ap (λ (x : ℕ). x * 2 ^ low f * 2) (limit-is f)
       ∙ ap (λ (x : ℕ). x * 2) (mul-assoc a (2 ^ (emax f - prec f)) (2 ^ low f) ∙ ap (λ (x : ℕ). a * x) (sym (pow-add 2 (emax f - prec f) (low f))))
       ∙ mul-assoc a (2 ^ (emax f - prec f + low f)) 2
       ∙ ap (λ (x : ℕ). a * x) (sym (pow-add 2 (emax f - prec f + low f) 1))

@@ -4,7 +4,8 @@ use Prim.Native.Nat.{ℕ, zero, suc, _-_, _<_}
 use native.Mathlib.Omega.{arith}
 use lib.IntN.{pos}
 use lib.Ieee.{Float, binary64, ofInt, sub, mul, div}
-use Rattle.numbers.specs.Arithmetic.{one64, series, squared}
+use Rattle.numbers.specs.Constants.{one64}
+use Rattle.numbers.specs.Arithmetic.{series, squared}
 
 pub series-step : (u : Float) (m : ℕ) (s : Float) → 0 < m → series u m s ≡ series u (m - 1) (sub binary64 one64 (div binary64 (mul binary64 u s) (ofInt binary64 (pos m))))
 unfolding series

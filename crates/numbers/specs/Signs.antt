@@ -8,7 +8,8 @@ use lib.Dec.{T, leb, eqb}
 use lib.IntN.{pos}
 use lib.Ieee.{Float, nan, inf, fin, binary64, odd, neg, fits, isNan, ofFields, ofBits, toBits}
 use lib.Ieee.Bits.{ofBits-toBits}
-use Rattle.numbers.specs.Arithmetic.{signed, one64}
+use Rattle.numbers.specs.Constants.{one64}
+use Rattle.numbers.specs.Arithmetic.{signed}
 
 -- 1 with the sign s
 abbrev unit : Bool → Float

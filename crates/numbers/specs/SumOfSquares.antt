@@ -78,30 +78,30 @@ sum-number f s a t b c = go (Bool·beq s t) (ltb a b)
     go false true = round-number f t (b - a) c
     go false false = round-number f (s && ltb b a) (a - b) c
 
-pub mul-nan : (f : Format) (x : Float) → isNan (mul f x x) ≡ isNan x
+pub is-nan-mul : (f : Format) (x : Float) → isNan (mul f x x) ≡ isNan x
 unfolding mul isNan
-mul-nan f nan = refl
-mul-nan f (inf s) = refl
-mul-nan f (fin s m e) = round-number f (unlike s s) (m * up e * (m * up e)) (down e * down e)
+is-nan-mul f nan = refl
+is-nan-mul f (inf s) = refl
+is-nan-mul f (fin s m e) = round-number f (unlike s s) (m * up e * (m * up e)) (down e * down e)
 
-pub add-nan : (f : Format) (x y : Float) → Square x → Square y → isNan (add f x y) ≡ isNan x || isNan y
+pub is-nan-add : (f : Format) (x y : Float) → Square x → Square y → isNan (add f x y) ≡ isNan x || isNan y
 unfolding add isNan
-add-nan f nan y none q = refl
-add-nan f (inf false) nan far none = refl
-add-nan f (inf false) (inf false) far far = refl
-add-nan f (inf false) (fin false n d) far some = refl
-add-nan f (fin false m e) nan some none = refl
-add-nan f (fin false m e) (inf false) some far = refl
-add-nan f (fin false m e) (fin false n d) some some = sum-number f false (m * up e * down d) false (n * up d * down e) (down e * down d)
+is-nan-add f nan y none q = refl
+is-nan-add f (inf false) nan far none = refl
+is-nan-add f (inf false) (inf false) far far = refl
+is-nan-add f (inf false) (fin false n d) far some = refl
+is-nan-add f (fin false m e) nan some none = refl
+is-nan-add f (fin false m e) (inf false) some far = refl
+is-nan-add f (fin false m e) (fin false n d) some some = sum-number f false (m * up e * down d) false (n * up d * down e) (down e * down d)
 
 -- from a finite place
-pub sub-nan : (f : Format) (x y : Float) → finite x ≡ true → isNan (sub f x y) ≡ isNan y
+pub is-nan-sub : (f : Format) (x y : Float) → finite x ≡ true → isNan (sub f x y) ≡ isNan y
 unfolding sub add neg isNan
-sub-nan f nan y h = absurd (true≢false (sym h))
-sub-nan f (inf s) y h = absurd (true≢false (sym h))
-sub-nan f (fin s m e) nan h = refl
-sub-nan f (fin s m e) (inf t) h = refl
-sub-nan f (fin s m e) (fin t n d) h = sum-number f s (m * up e * down d) (not t) (n * up d * down e) (down e * down d)
+is-nan-sub f nan y h = absurd (true≢false (sym h))
+is-nan-sub f (inf s) y h = absurd (true≢false (sym h))
+is-nan-sub f (fin s m e) nan h = refl
+is-nan-sub f (fin s m e) (inf t) h = refl
+is-nan-sub f (fin s m e) (fin t n d) h = sum-number f s (m * up e * down d) (not t) (n * up d * down e) (down e * down d)
 
 -- ---- its order
 

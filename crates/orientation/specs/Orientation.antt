@@ -5,9 +5,10 @@ use mathlib.Core.Bool.{cond}
 use mathlib.Core.List.{List, [], _∷_, map, foldl}
 use Prim.Native.Nat.{ℕ, _+_, _*_, _/_, _<_}
 use lib.ListN.{length, getD, set}
-use lib.Ieee.{Float, binary32, binary64, ofBits, neg, add, sub, mul, div, lt}
+use lib.Ieee.{Float, binary32, binary64, add, sub, mul, div, lt}
 use Rattle.lists.specs.Lists.{at}
 use Rattle.lists.specs.EveryNth.{strideFor, everyFrom}
+use Rattle.numbers.specs.Constants.{zero64, minusZero64, half64, three32}
 use Rattle.numbers.specs.Arithmetic.{signed}
 use Rattle.closed.specs.Faces.{Face, face, turn}
 use Rattle.grid.specs.declared.Grid.{Grid}
@@ -49,9 +50,6 @@ vertexAt vertices v = coordinate vertices v 0 ∷ coordinate vertices v 1 ∷ co
 
 -- ---- a face's centre and normal, in f32
 
-abbrev pub three32 : Float
-three32 = ofBits binary32 0x4040_0000
-
 abbrev pub centred : Float → Float → Float → Float
 centred a b c = div binary32 (add binary32 (add binary32 a b) c) three32
 
@@ -81,13 +79,6 @@ normalOf vertices (face a b c) = cross (minus (vertexAt vertices b) (vertexAt ve
 
 -- ---- orientation
 
--- the sums of the level and of the orientation start from -0.0
-abbrev pub minusZero : Float
-minusZero = neg (ofBits binary64 0)
-
-abbrev pub half64 : Float
-half64 = ofBits binary64 0x3FE0_0000_0000_0000
-
 -- what the field gains along an axis from half a step before a place to half a step behind it, in f64
 unfoldable pub gainAt : Grid → List Float → List Float → ℕ → Float
 gainAt g values p axis =
@@ -112,10 +103,10 @@ asked fs = everyFrom (strideFor 500 (length fs)) 0 fs
 abbrev pub plusSign : Grid → List Float → List Float → Float → Face → Float
 plusSign g values vertices sum f = add binary64 sum (signAt g values vertices f)
 
--- the sum of their signs
+-- the sum of their signs, from -0.0
 unfoldable pub agreementOf : Grid → List Float → List Float → List Face → Float
-agreementOf g values vertices fs = foldl (plusSign g values vertices) minusZero (asked fs)
+agreementOf g values vertices fs = foldl (plusSign g values vertices) minusZero64 (asked fs)
 
 -- below zero swaps corners 1 and 2 of all faces; a NaN sum is not below and swaps nothing
 unfoldable pub orientedFaces : Grid → List Float → List Float → List Face → List Face
-orientedFaces g values vertices fs = cond (lt (agreementOf g values vertices fs) (ofBits binary64 0)) (map turn fs) fs
+orientedFaces g values vertices fs = cond (lt (agreementOf g values vertices fs) zero64) (map turn fs) fs

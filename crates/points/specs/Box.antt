@@ -3,7 +3,8 @@
 use mathlib.Core.Bool.{true, false}
 use mathlib.Core.List.{List, [], _∷_, foldl}
 use Prim.Native.Nat.{ℕ}
-use lib.Ieee.{Float, inf, binary64, ofBits, add, sub, mul, div}
+use lib.Ieee.{Float, inf, binary64, add, sub, mul, div}
+use Rattle.numbers.specs.Constants.{zero64, one64, two64, tenth64}
 use Rattle.numbers.specs.Arithmetic.{least, largest}
 use Rattle.lists.specs.Lists.{at}
 use Rattle.points.specs.declared.point.Point.{Point}
@@ -34,21 +35,12 @@ spanOf b a = sub binary64 (at (b .hi) a) (at (b .lo) a)
 
 -- the largest of the three, from +0.0
 unfoldable pub extentOf : Bounds → Float
-extentOf b = largest (largest (largest (ofBits binary64 0) (spanOf b 0)) (spanOf b 1)) (spanOf b 2)
+extentOf b = largest (largest (largest zero64 (spanOf b 0)) (spanOf b 1)) (spanOf b 2)
 
 -- ---- the cube: side extent·(1+2·0.1), origin (lo+hi)/2 - side/2 per axis
 
-abbrev pub padding : Float
-padding = ofBits binary64 0x3FB9_9999_9999_999A
-
-abbrev pub one64 : Float
-one64 = ofBits binary64 0x3FF0_0000_0000_0000
-
-abbrev pub two64 : Float
-two64 = ofBits binary64 0x4000_0000_0000_0000
-
 unfoldable pub sideOf : Bounds → Float
-sideOf b = mul binary64 (extentOf b) (add binary64 one64 (mul binary64 two64 padding))
+sideOf b = mul binary64 (extentOf b) (add binary64 one64 (mul binary64 two64 tenth64))
 
 -- one coordinate of the origin
 abbrev pub originAlong : Bounds → ℕ → Float

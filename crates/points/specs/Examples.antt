@@ -3,7 +3,8 @@ use mathlib.Core.Path.{_≡_, refl}
 use mathlib.Core.Bool.{true, false}
 use mathlib.Core.List.{[], _∷_}
 use lib.IntN.{pos}
-use lib.Ieee.{Float, nan, inf, fin, binary32, binary64, ofBits, neg, add, sub, mul, div, lt, isNan}
+use lib.Ieee.{Float, nan, inf, fin, binary32, binary64, ofBits, round, neg, add, sub, mul, div, lt, isNan}
+use Rattle.numbers.specs.Constants.{trillionth32}
 use Rattle.numbers.specs.Arithmetic.{rooted}
 use Rattle.points.specs.declared.point.Point.{Point}
 use Rattle.points.specs.declared.point.Usability.the-variants.{Usable, PositionNotFinite, LengthNotFinite, NormalTooShort}
@@ -38,7 +39,7 @@ placed x = record { at = x ∷ O ∷ O ∷ []; normal = O ∷ O ∷ I ∷ [] }
 -- ---- the reasons, in their order
 
 pub reasons :
-    (usabilityOf (turned (ofBits binary32 0x2B8C_BCCC)) ≡ Usable)  -- the f32 nearest 1e-12, which is below it
+    (usabilityOf (turned trillionth32) ≡ Usable)  -- the f32 nearest 1e-12, which is below it
     × (usabilityOf (turned (ofBits binary32 0x2B8C_BCCB)) ≡ NormalTooShort)  -- one step shorter
     × (usabilityOf (turned O) ≡ NormalTooShort)
     × (usabilityOf (turned huge) ≡ LengthNotFinite)  -- a finite normal whose length overflows
@@ -46,7 +47,7 @@ pub reasons :
     × (usabilityOf (placed nan) ≡ PositionNotFinite)
     × (usabilityOf (placed (inf true)) ≡ PositionNotFinite)
     × (usabilityOf (record { at = O ∷ nan ∷ O ∷ []; normal = nan ∷ O ∷ O ∷ [] }) ≡ PositionNotFinite)  -- the position comes first
-unfolding usabilityOf lengthUsability placedOf lengthOf rooted ofBits add mul lt
+unfolding usabilityOf lengthUsability placedOf lengthOf rooted ofBits round add mul lt
 reasons = (refl, refl, refl, refl, refl, refl, refl, refl)
 
 -- ---- the box of (1, 0, 0) and (3, 0, 0): 2 wide, the cube 2.4 wide about (2, 0, 0)
@@ -62,5 +63,5 @@ box = (refl, refl, refl, refl)
 pub cube :
     (sideOf (boundsOf (placed III ∷ placed I ∷ [])) ≡ ofBits binary64 0x4003_3333_3333_3333)  -- 2.4
     × (originOf (boundsOf (placed III ∷ placed I ∷ [])) ≡ ofBits binary64 0x3FE9_9999_9999_999A ∷ ofBits binary64 0xBFF3_3333_3333_3333 ∷ ofBits binary64 0xBFF3_3333_3333_3333 ∷ [])  -- 0.8, -1.2
-unfolding boundsOf noBounds reached extentOf sideOf originOf isNan ofBits sub add neg mul div lt
+unfolding boundsOf noBounds reached extentOf sideOf originOf isNan ofBits round sub add neg mul div lt
 cube = (refl, refl)

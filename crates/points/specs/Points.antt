@@ -4,8 +4,9 @@ use mathlib.Core.Bool.{Bool, true, false, cond, _&&_}
 use mathlib.Core.List.{List, [], _∷_}
 use Prim.Native.Nat.{ℕ, _+_, _*_, _/_}
 use lib.ListN.{length}
-use lib.Ieee.{Float, binary32, ofBits, add, mul, div, lt}
+use lib.Ieee.{Float, binary32, add, mul, div, lt}
 use lib.Ieee.Scale.{finite}
+use Rattle.numbers.specs.Constants.{trillionth32}
 use Rattle.numbers.specs.Arithmetic.{rooted}
 use Rattle.lists.specs.Lists.{tabulate, at}
 use Rattle.points.specs.declared.point.Point.{Point}
@@ -41,13 +42,9 @@ squaresOf x y z = add binary32 (add binary32 (mul binary32 x x) (mul binary32 y 
 unfoldable pub lengthOf : Point → Float
 lengthOf p = rooted binary32 (squaresOf (at (p .normal) 0) (at (p .normal) 1) (at (p .normal) 2))
 
--- the f32 nearest 1e-12
-abbrev pub shortest : Float
-shortest = ofBits binary32 0x2B8C_BCCC
-
--- what a length says: not finite, or under 1e-12, or usable
+-- what a length says: not finite, or under the f32 nearest 1e-12, or usable
 unfoldable pub lengthUsability : Float → Usability
-lengthUsability n = cond (finite n) (cond (lt n shortest) NormalTooShort Usable) LengthNotFinite
+lengthUsability n = cond (finite n) (cond (lt n trillionth32) NormalTooShort Usable) LengthNotFinite
 
 -- whether each position component is finite
 unfoldable pub placedOf : Point → Bool

@@ -1,8 +1,8 @@
--- The results of a call by the way that it went: refused before any slice was touched, refused for want of room or of a face, or drawn. The verdict in the groups of Order decides which
--- results there are, and Showing where they stand. Assumes nothing.
+-- The results of a call by the way that it went: refused before any slice was touched, refused for want of room or of a face, or drawn. The verdict in the
+-- groups of Order decides which results there are, and Showing where they stand. Assumes nothing.
 use mathlib.Core.Path.{_≡_, refl, sym, ap, ap₂, _∙_, subst}
-use mathlib.Core.Bool.{Bool, false}
-use mathlib.Core.List.{List, [], _∷_, _++_, append-assoc}
+use mathlib.Core.Bool.{false}
+use mathlib.Core.List.{List, _++_, append-assoc}
 use Prim.Native.Nat.{ℕ, _+_, _-_, _*_, _≤_}
 use native.Mathlib.Omega.{arith}
 use lib.ListN.{length, take, replicate, length-append}
@@ -10,7 +10,6 @@ use lib.Seq.{take-at}
 use lib.Ieee.{Float}
 use Rattle.lists.specs.Lists.{zero32, padded}
 use Rattle.closed.specs.Faces.{corners}
-use Rattle.grid.specs.declared.Lattice.{Lattice}
 use Rattle.grid.specs.Grid.{Sides, Counts, latticeOf}
 use Rattle.grid.specs.Rows.{cube-counts}
 use Rattle.points.specs.declared.point.Point.{Point}
@@ -24,7 +23,8 @@ use Rattle.settings.specs.Answers.{accepts, refused, answerUnder}
 use Rattle.settings.specs.Refusals.{_then_, earlyVerdict, usableVerdict, extentVerdict, roomVerdict, meshVerdict}
 use Rattle.settings.specs.Passed.{both-pass, refusal-stands, ChecksPassed, ready, room-fits}
 use Rattle.scan.specs.declared.Found.{Found}
-use Rattle.scan.specs.Reconstruction.{Results, gridFor, latticeFor, fieldFor, levelFor, extentFor, vertexTotal, faceTotal, keptVertices, keptFaces, acceptedAnswer, lateVerdict, resultsUnder, measured, reconstructed}
+use Rattle.scan.specs.Reconstruction.{Results, gridFor, latticeFor, fieldFor, levelFor, extentFor, vertexTotal, faceTotal, keptVertices, keptFaces, acceptedAnswer, lateVerdict, resultsUnder, reconstructed}
+use Rattle.ending.specs.Slices.{Slices}
 use Rattle.scan.specs.Stages.{concluded}
 use Rattle.scan.specs.MeshRoom.{few-vertices, few-faces}
 use Rattle.poisson.specs.Outcome.{Done}
@@ -48,7 +48,7 @@ few-totals ps st sides =
 module _ (xs : List Float) (st : Settings) (lent : Lengths) {v : Verdict}
     (is : v ≡ earlyVerdict xs st lent then usableVerdict (length (usables xs)) then extentVerdict (extentFor (usables xs))) where
   pub first-refused : (r : Answer) (vs : List Float) (fs : List ℕ) → accepts v ≡ false → r ≡ refused v → Shown (reconstructed xs st lent) r vs fs
-  unfolding reconstructed measured
+  unfolding reconstructed
   first-refused r vs fs a e =
       let l = lateVerdict (usables xs) st lent in
       let whole = first-checks xs st lent ∙ ap (λ (u : Verdict). u then l) (sym is) ∙ refusal-stands v l a in
@@ -60,7 +60,7 @@ module _ (xs : List Float) (st : Settings) (lent : Lengths) {v : Verdict}
 
   pub first-passed : (r : Answer) (vs : List Float) (fs : List ℕ) → v ≡ Pass
       → Shown (resultsUnder (lateVerdict (usables xs) st lent) (usables xs) st) r vs fs → Shown (reconstructed xs st lent) r vs fs
-  unfolding reconstructed measured
+  unfolding reconstructed
   first-passed r vs fs t s =
       let l = lateVerdict (usables xs) st lent in
       let whole = first-checks xs st lent ∙ ap (λ (u : Verdict). u then l) (sym is ∙ t) in
@@ -122,8 +122,5 @@ module _ (ps : List Point) (st : Settings) (lent : Lengths) (found : Found) {v :
 -- ---- the whole call
 
 -- what is done for some results is done for results that are equal
-pub carry : {p q : Results} {r : Answer} {vs vs′ : List Float} {fs fs′ : List ℕ} {s0 s0′ s1 s1′ s2 s2′ s3 s3′ s4 s4′ s5 s5′ s6 s6′ : List Float} {edges edges′ : List ℕ} {distances distances′ : List Float}
-    → p ≡ q → Done p r vs vs′ fs fs′ s0 s0′ s1 s1′ s2 s2′ s3 s3′ s4 s4′ s5 s5′ s6 s6′ edges edges′ distances distances′
-    → Done q r vs vs′ fs fs′ s0 s0′ s1 s1′ s2 s2′ s3 s3′ s4 s4′ s5 s5′ s6 s6′ edges edges′ distances distances′
-carry {p} {q} {r} {vs} {vs′} {fs} {fs′} {s0} {s0′} {s1} {s1′} {s2} {s2′} {s3} {s3′} {s4} {s4′} {s5} {s5′} {s6} {s6′} {edges} {edges′} {distances} {distances′} e d =
-    subst (λ (o : Results). Done o r vs vs′ fs fs′ s0 s0′ s1 s1′ s2 s2′ s3 s3′ s4 s4′ s5 s5′ s6 s6′ edges edges′ distances distances′) e d
+pub carry : {p q : Lengths → Results} {r : Answer} {before after : Slices} → p ≡ q → Done p r before after → Done q r before after
+carry {p} {q} {r} {before} {after} e d = subst (λ (o : Lengths → Results). Done o r before after) e d

@@ -2,3 +2,4 @@
 pub mod Order
 pub mod Showing
 pub mod Finishing
+pub mod OneAnswer

@@ -1,6 +1,6 @@
 -- What the inner functions of a call ask and leave. Definitions only; assumes nothing.
 use mathlib.Core.Path.{_≡_}
-use mathlib.Core.List.{List, [], _∷_}
+use mathlib.Core.List.{List}
 use Prim.Native.Nat.{ℕ, _*_, _^_, _≤_}
 use lib.ListN.{length, take}
 use lib.Ieee.{Float}
@@ -27,7 +27,8 @@ pub record Shown (d : Results) (r : Answer) (vs : List Float) (fs : List ℕ) : 
   pub f-count : length (d .faces) ≡ 3 * r .faces
 
 -- what the stages ask: settings that passed the checks, and scratch of exactly the stated lengths
-pub record Workable (xs : List Float) (st : Settings) (lent : Lengths) (vs : List Float) (fs : List ℕ) (s0 s1 s2 s3 s4 s5 s6 : List Float) (edges : List ℕ) (distances : List Float) : Type 0 where
+pub record Workable (xs : List Float) (st : Settings) (lent : Lengths)
+    (vs : List Float) (fs : List ℕ) (s0 s1 s2 s3 s4 s5 s6 : List Float) (edges : List ℕ) (distances : List Float) : Type 0 where
   pub deep : 3 ≤ st .depth
   pub shallow : st .depth ≤ 8
   pub few : given xs ≤ 1048576
@@ -37,7 +38,8 @@ pub record Workable (xs : List Float) (st : Settings) (lent : Lengths) (vs : Lis
   pub three : length edges ≡ 3 * 8 ^ st .depth
 
 -- what the finish asks: all that was prepared
-pub record Finishable (ps : List Point) (st : Settings) (lent : Lengths) (g : Grid) (found : Found) (vs : List Float) (fs : List ℕ) (s0 a b c : List Float) (edges : List ℕ) : Type 0 where
+pub record Finishable (ps : List Point) (st : Settings) (lent : Lengths) (g : Grid) (found : Found)
+    (vs : List Float) (fs : List ℕ) (s0 a b c : List Float) (edges : List ℕ) : Type 0 where
   pub grid : g ≡ gridFor ps st
   pub sides : Sides (g .nodes)
   pub depth : allNodes g ≡ 8 ^ st .depth

@@ -1,15 +1,14 @@
-// Document 01, the whole call, beside `poisson_reconstruction` and `poisson_reconstruction_default` of the Rust's poisson.rs: the checks in their order, the stages, and one ending
-// that clears what is unused. "For every bit pattern of points and settings the call ends and stays inside the slices it was lent. The caller checks nothing first": nothing is required.
-// The crate `alone` has the call that stops at the level.
+// Document 01, the whole call, beside `poisson_reconstruction` and `poisson_reconstruction_default` of the Rust's poisson.rs: the checks in their order, the
+// stages, and one ending that clears what is unused. "For every bit pattern of points and settings the call ends and stays inside the slices it was lent.
+// The caller checks nothing first": nothing is required. The crate `alone` has the call that stops at the level.
 pub use alone::poisson_field;
 ghost use mathlib.Core.Path.{_≡_};
-ghost use mathlib.Core.List.{[], _∷_};
-ghost use Prim.Native.Nat.{_*_, _^_, _≤_, _<_};
+ghost use Prim.Native.Nat.{_*_, _<_};
 ghost use lib.ListN.{length};
-ghost use Rattle.points.specs.Points.{given, usables};
+ghost use Rattle.points.specs.Points.{usables};
 ghost use Rattle.settings.specs.Settings.{defaults};
-ghost use Rattle.settings.specs.Refusals.{lengthsOf, _then_, earlyVerdict, usableVerdict, extentVerdict, roomVerdict, meshVerdict};
-ghost use Rattle.scan.specs.Reconstruction.{extentFor, lateVerdict, resultsUnder, reconstructed};
+ghost use Rattle.settings.specs.Refusals.{_then_, earlyVerdict, usableVerdict, extentVerdict, roomVerdict, meshVerdict};
+ghost use Rattle.scan.specs.Reconstruction.{lengthsOf, extentFor, lateVerdict, resultsUnder, reconstructed};
 ghost use Rattle.poisson.specs.Outcome.{Done};
 ghost use Rattle.poisson.specs.Inner.{Shown, Workable, Finishable};
 use grid::Grid;
@@ -22,7 +21,9 @@ use settings::Verdict;
 
 // 7, 1, 2, 3, 8, 4, 5: the checks before any slice is touched.
 fn inspect(points: &[f32], settings: Settings, lengths: Lengths) -> Verdict
-    ensures { λ r. ⌜ r ≡ earlyVerdict (now (points .entry)) settings lengths then usableVerdict (length (usables (now (points .entry)))) then extentVerdict (extentFor (usables (now (points .entry)))) ⌝ }
+    ensures { λ r. ⌜ r ≡ earlyVerdict (now (points .entry)) settings lengths
+        then usableVerdict (length (usables (now (points .entry))))
+        then extentVerdict (extentFor (usables (now (points .entry)))) ⌝ }
 {
     let early = settings::early(points, settings, lengths);
     let Verdict::Pass = early else {
@@ -59,7 +60,8 @@ fn finish(
     edges: &mut [u32],
 ) -> Answer
     requires { ⌜ Finishable (usables (now points)) settings lengths g found (now vertices) (now faces) (now field) (now a) (now b) (now c) (now edges) ⌝ }
-    ensures { λ r. ⌜ Shown (resultsUnder (lateVerdict (usables (now (points .entry))) settings lengths) (usables (now (points .entry))) settings) r (now (vertices .exit)) (now (faces .exit)) ⌝ }
+    ensures { λ r. ⌜ Shown (resultsUnder (lateVerdict (usables (now (points .entry))) settings lengths) (usables (now (points .entry))) settings)
+        r (now (vertices .exit)) (now (faces .exit)) ⌝ }
 {
     let verdict = late(found, lengths);
     let Verdict::Pass = verdict else {
@@ -106,8 +108,10 @@ fn work(
     edges: &mut [u32],
     distances: &mut [f32],
 ) -> Answer
-    requires { ⌜ Workable (now points) settings lengths (now vertices) (now faces) (now s0) (now s1) (now s2) (now s3) (now s4) (now s5) (now s6) (now edges) (now distances) ⌝ }
-    ensures { λ r. ⌜ Shown (resultsUnder (lateVerdict (usables (now (points .entry))) settings lengths) (usables (now (points .entry))) settings) r (now (vertices .exit)) (now (faces .exit)) ⌝ }
+    requires { ⌜ Workable (now points) settings lengths (now vertices) (now faces)
+        (now s0) (now s1) (now s2) (now s3) (now s4) (now s5) (now s6) (now edges) (now distances) ⌝ }
+    ensures { λ r. ⌜ Shown (resultsUnder (lateVerdict (usables (now (points .entry))) settings lengths) (usables (now (points .entry))) settings)
+        r (now (vertices .exit)) (now (faces .exit)) ⌝ }
 {
     let bounds = Bounds::of(points);
     let found = scan::prepare(
@@ -157,7 +161,24 @@ fn attempt(
     edges: &mut [u32],
     distances: &mut [f32],
 ) -> Answer
-    ensures { λ r. ⌜ Shown (reconstructed (now (points .entry)) settings (lengthsOf (now (vertices .entry)) (now (faces .entry)) (now (s0 .entry)) (now (s1 .entry)) (now (s2 .entry)) (now (s3 .entry)) (now (s4 .entry)) (now (s5 .entry)) (now (s6 .entry)) (now (edges .entry)) (now (distances .entry)))) r (now (vertices .exit)) (now (faces .exit)) ⌝ }
+    ensures { λ r. ⌜ Shown
+        (reconstructed (now (points .entry)) settings
+        (lengthsOf (record {
+          vertices = now (vertices .entry);
+          faces = now (faces .entry);
+          scratch = record {
+            s0 = now (s0 .entry);
+            s1 = now (s1 .entry);
+            s2 = now (s2 .entry);
+            s3 = now (s3 .entry);
+            s4 = now (s4 .entry);
+            s5 = now (s5 .entry);
+            s6 = now (s6 .entry);
+            edges = now (edges .entry);
+            distances = now (distances .entry);
+          };
+        })))
+        r (now (vertices .exit)) (now (faces .exit)) ⌝ }
 {
     let grids = [
         s0.len(),
@@ -215,7 +236,37 @@ pub fn poisson_reconstruction(
     edges: &mut [u32],
     distances: &mut [f32],
 ) -> Answer
-    ensures { λ r. ⌜ Done (reconstructed (now (points .entry)) settings (lengthsOf (now (vertices .entry)) (now (faces .entry)) (now (s0 .entry)) (now (s1 .entry)) (now (s2 .entry)) (now (s3 .entry)) (now (s4 .entry)) (now (s5 .entry)) (now (s6 .entry)) (now (edges .entry)) (now (distances .entry)))) r (now (vertices .entry)) (now (vertices .exit)) (now (faces .entry)) (now (faces .exit)) (now (s0 .entry)) (now (s0 .exit)) (now (s1 .entry)) (now (s1 .exit)) (now (s2 .entry)) (now (s2 .exit)) (now (s3 .entry)) (now (s3 .exit)) (now (s4 .entry)) (now (s4 .exit)) (now (s5 .entry)) (now (s5 .exit)) (now (s6 .entry)) (now (s6 .exit)) (now (edges .entry)) (now (edges .exit)) (now (distances .entry)) (now (distances .exit)) ⌝ }
+    ensures { λ r. ⌜ Done (reconstructed (now (points .entry)) settings) r
+        (record {
+          vertices = now (vertices .entry);
+          faces = now (faces .entry);
+          scratch = record {
+            s0 = now (s0 .entry);
+            s1 = now (s1 .entry);
+            s2 = now (s2 .entry);
+            s3 = now (s3 .entry);
+            s4 = now (s4 .entry);
+            s5 = now (s5 .entry);
+            s6 = now (s6 .entry);
+            edges = now (edges .entry);
+            distances = now (distances .entry);
+          };
+        })
+        (record {
+          vertices = now (vertices .exit);
+          faces = now (faces .exit);
+          scratch = record {
+            s0 = now (s0 .exit);
+            s1 = now (s1 .exit);
+            s2 = now (s2 .exit);
+            s3 = now (s3 .exit);
+            s4 = now (s4 .exit);
+            s5 = now (s5 .exit);
+            s6 = now (s6 .exit);
+            edges = now (edges .exit);
+            distances = now (distances .exit);
+          };
+        }) ⌝ }
 {
     let answer = attempt(
         points,
@@ -267,7 +318,37 @@ pub fn poisson_reconstruction_default(
     edges: &mut [u32],
     distances: &mut [f32],
 ) -> Answer
-    ensures { λ r. ⌜ Done (reconstructed (now (points .entry)) defaults (lengthsOf (now (vertices .entry)) (now (faces .entry)) (now (s0 .entry)) (now (s1 .entry)) (now (s2 .entry)) (now (s3 .entry)) (now (s4 .entry)) (now (s5 .entry)) (now (s6 .entry)) (now (edges .entry)) (now (distances .entry)))) r (now (vertices .entry)) (now (vertices .exit)) (now (faces .entry)) (now (faces .exit)) (now (s0 .entry)) (now (s0 .exit)) (now (s1 .entry)) (now (s1 .exit)) (now (s2 .entry)) (now (s2 .exit)) (now (s3 .entry)) (now (s3 .exit)) (now (s4 .entry)) (now (s4 .exit)) (now (s5 .entry)) (now (s5 .exit)) (now (s6 .entry)) (now (s6 .exit)) (now (edges .entry)) (now (edges .exit)) (now (distances .entry)) (now (distances .exit)) ⌝ }
+    ensures { λ r. ⌜ Done (reconstructed (now (points .entry)) defaults) r
+        (record {
+          vertices = now (vertices .entry);
+          faces = now (faces .entry);
+          scratch = record {
+            s0 = now (s0 .entry);
+            s1 = now (s1 .entry);
+            s2 = now (s2 .entry);
+            s3 = now (s3 .entry);
+            s4 = now (s4 .entry);
+            s5 = now (s5 .entry);
+            s6 = now (s6 .entry);
+            edges = now (edges .entry);
+            distances = now (distances .entry);
+          };
+        })
+        (record {
+          vertices = now (vertices .exit);
+          faces = now (faces .exit);
+          scratch = record {
+            s0 = now (s0 .exit);
+            s1 = now (s1 .exit);
+            s2 = now (s2 .exit);
+            s3 = now (s3 .exit);
+            s4 = now (s4 .exit);
+            s5 = now (s5 .exit);
+            s6 = now (s6 .exit);
+            edges = now (edges .exit);
+            distances = now (distances .exit);
+          };
+        }) ⌝ }
 {
     poisson_reconstruction(
         points,

@@ -1,3 +1,4 @@
 -- What the proofs of the stages share.
 pub mod Preparing
 pub mod Drawing
+pub mod OneAnswer

@@ -1,39 +1,28 @@
--- What the first stages leave is what Reconstruction puts together: each stage's definition at the results of those before. By congruence, stage after stage. Assumes nothing.
-use mathlib.Core.Path.{_≡_, refl, sym, ap, _∙_, subst}
-use mathlib.Core.List.{List, [], _∷_}
-use Prim.Native.Nat.{ℕ, zero, suc, _+_, _*_, _^_, _≤_}
-use native.Mathlib.Nat.{mul-assoc, mul-comm, mul-mul-mul-comm, pow-succ'}
-use native.Mathlib.Omega.{arith}
-use lib.ListN.{length}
+-- What the first stages leave is what Reconstruction puts together: each stage's definition at the results of those before. By congruence, stage after
+-- stage. Assumes nothing.
+use mathlib.Core.Path.{_≡_, ap, _∙_, subst}
+use mathlib.Core.List.{List}
+use Prim.Native.Nat.{ℕ, _*_, _^_}
 use lib.Ieee.{Float}
 use Rattle.grid.specs.declared.Grid.{Grid}
 use Rattle.grid.specs.declared.Lattice.{Lattice}
-use Rattle.grid.specs.Grid.{Sides, Counts, gridOf, latticeOf, allNodes}
+use Rattle.grid.specs.Grid.{gridOf, latticeOf, allNodes}
 use Rattle.points.specs.declared.point.Point.{Point}
 use Rattle.points.specs.declared.bounds.Bounds.{Bounds}
 use Rattle.points.specs.Box.{boundsOf, extentOf, sideOf, originOf}
 use Rattle.search.specs.Spacing.{spacingOf}
 use Rattle.settings.specs.declared.Settings.{Settings}
 use Rattle.cells.specs.Extraction.{countX, countY, countZ}
-use Rattle.numbering.specs.FirstPass.{Numberable, Counted}
+use Rattle.numbering.specs.FirstPass.{Counted}
 use Rattle.numbering.specs.declared.Totals.{Totals}
 use Rattle.surface.specs.Surface.{levelOf}
 use Rattle.levels.specs.declared.Problem.{Problem}
 use Rattle.levels.specs.Levels.{solution}
 use Rattle.scan.specs.Reconstruction.{problemFor, gridFor, latticeFor, fieldFor, levelFor}
 use Rattle.scan.specs.Stages.{GridOver}
+use Rattle.scan.specs.FieldLength.{cubed}
 
 -- ---- N
-
--- (2^d)^3 is 8^d
-pub cubed : (d : ℕ) → 2 ^ d * 2 ^ d * 2 ^ d ≡ 8 ^ d
-cubed zero = refl
-cubed (suc d) =
-    let t = 2 ^ d in
-    let twice : 2 ^ suc d ≡ 2 * t = pow-succ' 2 d in
-    let two : 2 * t * (2 * t) ≡ 4 * (t * t) = mul-mul-mul-comm 2 t 2 t in
-    let three : 4 * (t * t) * (2 * t) ≡ 8 * (t * t * t) = mul-mul-mul-comm 4 (t * t) 2 t in
-    ap (λ (k : ℕ). k * k * k) twice ∙ ap (λ (k : ℕ). k * (2 * t)) two ∙ three ∙ ap (λ (k : ℕ). 8 * k) (cubed d) ∙ sym (pow-succ' 8 d)
 
 pub nodes-cubed : {b : Bounds} {st : Settings} {g : Grid} → GridOver b st g → allNodes g ≡ 8 ^ st .depth
 unfolding gridOf

@@ -1,4 +1,5 @@
--- The call for the field alone: the part of `reconstructed` up to the level, after the same checks as far as they do not speak of the mesh. Definitions only; assumes nothing.
+-- The call for the field alone: the part of `reconstructed` up to the level, after the same checks as far as they do not speak of the mesh. Definitions
+-- only; assumes nothing.
 use mathlib.Core.Bool.{cond}
 use mathlib.Core.List.{List, []}
 use Prim.Native.Nat.{ℕ, _^_}
@@ -15,7 +16,12 @@ use Rattle.settings.specs.declared.Verdict.{Verdict}
 use Rattle.settings.specs.declared.Verdict.the-variants.{ScratchRoom}
 use Rattle.settings.specs.Answers.{accepts, answerUnder}
 use Rattle.settings.specs.Refusals.{_when_, _then_, earlyVerdict, usableVerdict, extentVerdict}
-use Rattle.scan.specs.Reconstruction.{extentFor, fieldFor, levelFor}
+use Rattle.ending.specs.Slices.{Scratch}
+use Rattle.scan.specs.Reconstruction.{lengthsOf, extentFor, fieldFor, levelFor}
+
+-- how long the lent scratch is; there are no slices for a mesh
+abbrev pub fieldLengths : Scratch → Lengths
+fieldLengths lent = lengthsOf (record { vertices = []; faces = []; scratch = lent })
 
 -- 8 is also given where the slice for the values has less than N = 8^depth elements
 unfoldable pub valuesVerdict : (depth room : ℕ) → Verdict

@@ -3,4 +3,5 @@ pub mod Reconstruction
 pub mod FieldAlone
 pub mod Stages
 pub mod MeshRoom
+pub mod FieldLength
 pub mod NanOffset

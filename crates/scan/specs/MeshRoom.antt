@@ -1,18 +1,16 @@
--- The untrimmed mesh as two flat lists: V places and F triples of numbers below V, oriented or not; V is at most 3N and 3F fits a u32. By the numbering at first
--- use and the bounds of the crate `closed`. Assumes nothing.
-use mathlib.Core.Path.{_≡_, refl, sym, ap, _∙_, subst}
-use mathlib.Core.List.{List, [], _∷_, _++_}
-use Prim.Native.Nat.{ℕ, zero, suc, _+_, _-_, _*_, _^_, _/_, _≤_, _<_}
+-- The untrimmed mesh as two flat lists: V places and F triples of numbers below V, oriented or not; V is at most 3N and 3F fits a u32. By the numbering at
+-- first use and the bounds of the crate `closed`. Assumes nothing.
+use mathlib.Core.Path.{_≡_, refl, sym, _∙_}
+use mathlib.Core.List.{List, [], _∷_}
+use Prim.Native.Nat.{ℕ, _-_, _*_, _≤_, _<_}
 use native.Mathlib.Nat.{mul-le-mul, mul-assoc}
 use native.Mathlib.Omega.{arith}
-use lib.Dec.{lit<, lit≤}
 use lib.ListN.{length, getD, length-append}
 use lib.Ieee.{Float}
-use Rattle.closed.specs.Lists.{In}
-use Rattle.closed.specs.Faces.{Face, corners, faces}
-use Rattle.closed.specs.Numbering.{used, mesh}
+use Rattle.closed.specs.Faces.{corners}
+use Rattle.closed.specs.Numbering.{mesh}
 use Rattle.closed.specs.Renumber.{in-at}
-use Rattle.closed.specs.Turning.{length-corners, faces-corners}
+use Rattle.closed.specs.Turning.{length-corners}
 use Rattle.closed.specs.Mesh.{mesh-length, corner-lt}
 use Rattle.closed.specs.Bounds.{faces-le, vertices-le}
 use Rattle.grid.specs.declared.Lattice.{Lattice}

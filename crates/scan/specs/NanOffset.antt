@@ -1,5 +1,5 @@
--- Document 01, "Numbers of refusal": "an iso offset of NaN puts nothing below and gives 6". The level is NaN, no value is less than NaN, so every cell has case 0, whose row is empty.
--- Assumes nothing.
+-- Document 01, "Numbers of refusal": "an iso offset of NaN puts nothing below and gives 6". The level is NaN, no value is less than NaN, so every cell has
+-- case 0, whose row is empty, and the checks of the mesh end in 6. What the call then answers is `nan-offset-refused` of the crate `demands`. Assumes nothing.
 use mathlib.Core.Path.{_≡_, refl, ap, _∙_}
 use mathlib.Core.Bool.{Bool, false}
 use mathlib.Core.List.{List, [], _++_}
@@ -21,7 +21,7 @@ use Rattle.settings.specs.declared.Lengths.{Lengths}
 use Rattle.settings.specs.declared.Verdict.{Verdict}
 use Rattle.settings.specs.declared.Verdict.the-variants.{VertexRoom, FaceRoom, NoFace}
 use Rattle.settings.specs.Refusals.{_when_, _then_, vertexRoomVerdict, faceRoomVerdict, meshVerdict}
-use Rattle.cells.specs.Extraction.{isBelow, belowAt, below, countX, countY, countZ, edgeFaces, vertexEdges}
+use Rattle.cells.specs.Extraction.{isBelow, belowAt, countX, countY, countZ, edgeFaces, vertexEdges}
 use Rattle.surface.specs.Surface.{levelOf}
 use Rattle.scan.specs.Reconstruction.{gridFor, latticeFor, fieldFor, levelFor, vertexTotal, faceTotal, keptFaces, lateVerdict}
 
@@ -63,7 +63,7 @@ no-faces values l =
     ap (gridFaces (countX l) (countY l) (countZ l)) (λ t i j k. not-below (at values (node (countY l) (countZ l) i j k)) t)
     ∙ case-0 (countX l) (countY l) (countZ l)
 
--- ---- so the call is refused with 6, once the checks before have passed
+-- ---- so the last checks end in 6: there is room for nothing, and no face
 
 -- any slices have room for nothing
 room-for-none : (lent : Lengths) (w : Verdict) → vertexRoomVerdict 0 lent then faceRoomVerdict 0 lent then w ≡ w
@@ -84,9 +84,9 @@ module _ (ps : List Point) (st : Settings) (e : st .«iso_offset» ≡ nan) wher
   unfolding faceTotal
   no-face = ap length empty
 
-  pub nan-offset-refused : (lent : Lengths) → lateVerdict ps st lent ≡ NoFace
+  pub nan-offset-no-face : (lent : Lengths) → lateVerdict ps st lent ≡ NoFace
   unfolding lateVerdict meshVerdict
-  nan-offset-refused lent =
+  nan-offset-no-face lent =
       let kept = meshVerdict (length (keptFaces ps st)) in
       ap (λ (v : ℕ). vertexRoomVerdict v lent then faceRoomVerdict (faceTotal ps st) lent then meshVerdict (faceTotal ps st) then kept) no-vertex
       ∙ ap (λ (f : ℕ). vertexRoomVerdict 0 lent then faceRoomVerdict f lent then meshVerdict f then kept) no-face

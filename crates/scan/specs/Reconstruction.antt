@@ -18,13 +18,14 @@ use Rattle.settings.specs.declared.Lengths.{Lengths}
 use Rattle.settings.specs.declared.Answer.{Answer}
 use Rattle.settings.specs.declared.Verdict.{Verdict}
 use Rattle.settings.specs.Answers.{accepts, answerUnder}
-use Rattle.settings.specs.Refusals.{_then_, earlyVerdict, usableVerdict, extentVerdict, vertexRoomVerdict, faceRoomVerdict, roomVerdict, meshVerdict}
+use Rattle.settings.specs.Refusals.{_then_, earlyVerdict, usableVerdict, extentVerdict, vertexRoomVerdict, faceRoomVerdict, meshVerdict}
 use Rattle.levels.specs.declared.Problem.{Problem}
 use Rattle.levels.specs.Levels.{solution}
 use Rattle.trim.specs.Trim.{trimmedVertices, trimmedFaces}
 use Rattle.cells.specs.Extraction.{vertexEdges, edgeFaces, extractedVertices, extractedFaces}
 use Rattle.orientation.specs.Orientation.{orientedFaces, vertexCount}
 use Rattle.surface.specs.Surface.{levelOf, boxOf}
+use Rattle.ending.specs.Slices.{Slices}
 
 -- ---- the stages, over the usable points
 
@@ -81,15 +82,26 @@ keptVertices ps st = trimmedVertices (st .trimming) ps (wholeVertices ps st) (wh
 unfoldable pub keptFaces : (ps : List Point) → Settings → List Face
 keptFaces ps st = trimmedFaces (st .trimming) ps (wholeVertices ps st) (wholeFaces ps st)
 
--- ---- what is measured on the way, and the verdict: 7, 1, 2, 3, 8, 4, 5, 9, 10, 6
+-- ---- the verdict: 7, 1, 2, 3, 8, 4, 5, 9, 10, 6
 
-pub record Measured : Type 0 where
-  pub verdict : Verdict
-  pub usable : ℕ
-  pub extent : Float
-  -- of the untrimmed mesh
-  pub vertices : ℕ
-  pub faces : ℕ
+-- how long the lent slices are: the two for the mesh, the seven of a value a node, the edge table, and the one of a distance a point
+abbrev pub lengthsOf : Slices → Lengths
+lengthsOf lent =
+    record {
+      vertices = length (lent .vertices);
+      faces = length (lent .faces);
+      grids =
+          length (lent .scratch .s0)
+          ∷ length (lent .scratch .s1)
+          ∷ length (lent .scratch .s2)
+          ∷ length (lent .scratch .s3)
+          ∷ length (lent .scratch .s4)
+          ∷ length (lent .scratch .s5)
+          ∷ length (lent .scratch .s6)
+          ∷ [];
+      edges = length (lent .scratch .edges);
+      distances = length (lent .scratch .distances);
+    }
 
 -- 9, 10, then 6 before and after trimming
 unfoldable pub lateVerdict : (ps : List Point) → Settings → Lengths → Verdict
@@ -106,30 +118,24 @@ verdictOf xs st lent =
     then extentVerdict (extentFor (usables xs))
     then lateVerdict (usables xs) st lent
 
-unfoldable pub measured : (xs : List Float) → Settings → Lengths → Measured
-measured xs st lent =
-    record {
-      verdict = verdictOf xs st lent;
-      usable = length (usables xs);
-      extent = extentFor (usables xs);
-      vertices = vertexTotal (usables xs) st;
-      faces = faceTotal (usables xs) st;
-    }
-
 -- ---- the answer and the results
 
--- of a call that is accepted: V, F and box are those of the mesh that is returned
-unfoldable pub acceptedAnswer : (ps : List Point) → Settings → Answer
-acceptedAnswer ps st =
+-- of an accepted call: for so many usable points, a level, so many faces, and the vertices, of which V and the box are told
+abbrev pub meshAnswer : (usable : ℕ) (level : Float) (faces : ℕ) (vertices : List Float) → Answer
+meshAnswer usable level faces vertices =
     record {
       number = 0;
-      usable = length ps;
-      vertices = vertexCount (keptVertices ps st);
-      faces = length (keptFaces ps st);
-      level = levelFor ps st;
-      low = boxOf (keptVertices ps st) .low;
-      high = boxOf (keptVertices ps st) .high;
+      usable = usable;
+      vertices = vertexCount vertices;
+      faces = faces;
+      level = level;
+      low = boxOf vertices .low;
+      high = boxOf vertices .high;
     }
+
+-- V, F and box are those of the mesh that is returned
+unfoldable pub acceptedAnswer : (ps : List Point) → Settings → Answer
+acceptedAnswer ps st = meshAnswer (length ps) (levelFor ps st) (length (keptFaces ps st)) (keptVertices ps st)
 
 -- an answer, and what stands at the front of the two result slices
 pub record Results : Type 0 where
@@ -147,4 +153,4 @@ resultsUnder v ps st =
     }
 
 unfoldable pub reconstructed : (xs : List Float) → Settings → Lengths → Results
-reconstructed xs st lent = resultsUnder (measured xs st lent .verdict) (usables xs) st
+reconstructed xs st lent = resultsUnder (verdictOf xs st lent) (usables xs) st

@@ -1,7 +1,7 @@
 -- What the stages of a call ask of the slices that they are lent, and what they leave in them, in the words of Reconstruction. A slice is its list before the
 -- stage, and with a stroke its list after it. Definitions only; assumes nothing.
 use mathlib.Core.Path.{_≡_}
-use mathlib.Core.List.{List, [], _∷_}
+use mathlib.Core.List.{List}
 use Prim.Native.Nat.{ℕ, _*_, _^_, _≤_}
 use lib.ListN.{length}
 use lib.Ieee.{Float}
@@ -17,11 +17,9 @@ use Rattle.settings.specs.declared.Answer.{Answer}
 use Rattle.settings.specs.Answers.{answerUnder}
 use Rattle.settings.specs.Refusals.{meshVerdict}
 use Rattle.numbering.specs.FirstPass.{edgeTable}
-use Rattle.orientation.specs.Orientation.{vertexCount}
-use Rattle.surface.specs.Surface.{boxOf}
 use Rattle.scan.specs.declared.Found.{Found}
 use Rattle.trim.specs.declared.MeshSize.{MeshSize}
-use Rattle.scan.specs.Reconstruction.{gridFor, latticeFor, fieldFor, levelFor, vertexTotal, faceTotal, keptVertices, keptFaces}
+use Rattle.scan.specs.Reconstruction.{gridFor, latticeFor, fieldFor, levelFor, vertexTotal, faceTotal, keptVertices, keptFaces, meshAnswer}
 
 -- the grid over a box, and that its side is one of 2^1 .. 2^8 nodes
 pub record GridOver (b : Bounds) (st : Settings) (g : Grid) : Type 0 where
@@ -40,7 +38,8 @@ pub record Lent (n points : ℕ) (s0 s1 s2 s3 s4 s5 s6 distances : List Float) :
   pub enough : points ≤ length distances
 
 -- the level, the field in the first slice, and zeros
-pub record Solved (ps : List Point) (st : Settings) (level : Float) (s0′ s1′ s2′ s3′ s4′ s5′ s6′ distances distances′ : List Float) : Type 0 where
+pub record Solved (ps : List Point) (st : Settings) (level : Float)
+    (s0′ s1′ s2′ s3′ s4′ s5′ s6′ distances distances′ : List Float) : Type 0 where
   pub level-is : level ≡ levelFor ps st
   pub field : s0′ ≡ fieldFor ps st
   pub zero1 : s1′ ≡ zeros32 (8 ^ st .depth)
@@ -52,14 +51,16 @@ pub record Solved (ps : List Point) (st : Settings) (level : Float) (s0′ s1′
   pub no-distances : distances′ ≡ zeros32 (length distances)
 
 -- besides, V and F, and the numbers of the crossed edges in the table
-pub record Prepared (ps : List Point) (st : Settings) (r : Found) (s0′ s1′ s2′ s3′ s4′ s5′ s6′ : List Float) (edges′ : List ℕ) (distances distances′ : List Float) : Type 0 where
+pub record Prepared (ps : List Point) (st : Settings) (r : Found)
+    (s0′ s1′ s2′ s3′ s4′ s5′ s6′ : List Float) (edges′ : List ℕ) (distances distances′ : List Float) : Type 0 where
   pub solved : Solved ps st (r .level) s0′ s1′ s2′ s3′ s4′ s5′ s6′ distances distances′
   pub vertices-are : r .vertices ≡ vertexTotal ps st
   pub faces-are : r .faces ≡ faceTotal ps st
   pub numbers : edges′ ≡ edgeTable (fieldFor ps st) (latticeFor ps st) (levelFor ps st)
 
 -- what the drawing asks: all that was prepared, and slices of exactly 3V and 3F
-pub record Drawable (ps : List Point) (st : Settings) (g : Grid) (level : Float) (vs : List Float) (fs : List ℕ) (s0 a b c : List Float) (edges : List ℕ) : Type 0 where
+pub record Drawable (ps : List Point) (st : Settings) (g : Grid) (level : Float)
+    (vs : List Float) (fs : List ℕ) (s0 a b c : List Float) (edges : List ℕ) : Type 0 where
   pub grid : g ≡ gridFor ps st
   pub sides : Sides (g .nodes)
   pub depth : allNodes g ≡ 8 ^ st .depth
@@ -74,7 +75,8 @@ pub record Drawable (ps : List Point) (st : Settings) (g : Grid) (level : Float)
   pub numbers : edges ≡ edgeTable (fieldFor ps st) (latticeFor ps st) (levelFor ps st)
 
 -- the mesh that is returned at the front of its slices, zeros past it and in the scratch, and its size
-pub record Drawn (ps : List Point) (st : Settings) (r : MeshSize) (vs vs′ : List Float) (fs fs′ : List ℕ) (a a′ b b′ c c′ : List Float) (edges edges′ : List ℕ) : Type 0 where
+pub record Drawn (ps : List Point) (st : Settings) (r : MeshSize)
+    (vs vs′ : List Float) (fs fs′ : List ℕ) (a a′ b b′ c c′ : List Float) (edges edges′ : List ℕ) : Type 0 where
   pub vertex-count : length (keptVertices ps st) ≡ 3 * r .vertices
   pub face-count : length (keptFaces ps st) ≡ r .faces
   pub places : vs′ ≡ padded zero32 (length vs) (keptVertices ps st)
@@ -84,16 +86,7 @@ pub record Drawn (ps : List Point) (st : Settings) (r : MeshSize) (vs vs′ : Li
   pub zero3 : c′ ≡ zeros32 (length c)
   pub no-numbers : edges′ ≡ zerosU (length edges)
 
--- the answer for so many usable points and faces, a level and these vertices
+-- 6 where there is no face, or the answer of an accepted call
 unfoldable pub concluded : (usable : ℕ) (level : Float) (faces : ℕ) (vertices : List Float) → Answer
 concluded usable level faces vertices =
-    answerUnder (meshVerdict faces)
-    (record {
-      number = 0;
-      usable = usable;
-      vertices = vertexCount vertices;
-      faces = faces;
-      level = level;
-      low = boxOf vertices .low;
-      high = boxOf vertices .high;
-    })
+    answerUnder (meshVerdict faces) (meshAnswer usable level faces vertices)

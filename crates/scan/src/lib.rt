@@ -1,6 +1,6 @@
 // Document 01, the stages between the checks and the answer, in the order of the data's way; the middle of `poisson_reconstruction` in the Rust's poisson.rs.
-// `field_and_level` goes as far as its name says; `prepare` goes on until V and F are known, so that a caller can refuse before anything is written; `draw` makes the
-// mesh; `conclude` makes the answer of it.
+// `field_and_level` goes as far as its name says; `prepare` goes on until V and F are known, so that a caller can refuse before anything is written; `draw`
+// makes the mesh; `conclude` makes the answer of it.
 // Lent slices have exactly the stated lengths here.
 ghost use mathlib.Core.Path.{_≡_};
 ghost use Prim.Native.Nat.{_*_, _^_, _≤_};
@@ -47,7 +47,15 @@ pub fn field_and_level(
 ) -> f32
     requires { ⌜ (3 ≤ settings .depth) × (settings .depth ≤ 8) × (given (now points) ≤ 1048576) × (bounds ≡ boundsOf (usables (now points))) ⌝ }
     requires { ⌜ Lent (8 ^ settings .depth) (given (now points)) (now s0) (now s1) (now s2) (now s3) (now s4) (now s5) (now s6) (now distances) ⌝ }
-    ensures { λ r. ⌜ Solved (usables (now (points .entry))) settings r (now (s0 .exit)) (now (s1 .exit)) (now (s2 .exit)) (now (s3 .exit)) (now (s4 .exit)) (now (s5 .exit)) (now (s6 .exit)) (now (distances .entry)) (now (distances .exit)) ⌝ }
+    ensures { λ r. ⌜ Solved (usables (now (points .entry))) settings r
+        (now (s0 .exit))
+        (now (s1 .exit))
+        (now (s2 .exit))
+        (now (s3 .exit))
+        (now (s4 .exit))
+        (now (s5 .exit))
+        (now (s6 .exit))
+        (now (distances .entry)) (now (distances .exit)) ⌝ }
 {
     let spacing = search::spacing(points, distances, bounds.extent());
     let origin = bounds.origin();
@@ -78,9 +86,20 @@ pub fn prepare(
     edges: &mut [u32],
     distances: &mut [f32],
 ) -> Found
-    requires { ⌜ (3 ≤ settings .depth) × (settings .depth ≤ 8) × (given (now points) ≤ 1048576) × (bounds ≡ boundsOf (usables (now points))) × (length (now edges) ≡ 3 * 8 ^ settings .depth) ⌝ }
+    requires { ⌜ (3 ≤ settings .depth) × (settings .depth ≤ 8) × (given (now points) ≤ 1048576)
+        × (bounds ≡ boundsOf (usables (now points)))
+        × (length (now edges) ≡ 3 * 8 ^ settings .depth) ⌝ }
     requires { ⌜ Lent (8 ^ settings .depth) (given (now points)) (now s0) (now s1) (now s2) (now s3) (now s4) (now s5) (now s6) (now distances) ⌝ }
-    ensures { λ r. ⌜ Prepared (usables (now (points .entry))) settings r (now (s0 .exit)) (now (s1 .exit)) (now (s2 .exit)) (now (s3 .exit)) (now (s4 .exit)) (now (s5 .exit)) (now (s6 .exit)) (now (edges .exit)) (now (distances .entry)) (now (distances .exit)) ⌝ }
+    ensures { λ r. ⌜ Prepared (usables (now (points .entry))) settings r
+        (now (s0 .exit))
+        (now (s1 .exit))
+        (now (s2 .exit))
+        (now (s3 .exit))
+        (now (s4 .exit))
+        (now (s5 .exit))
+        (now (s6 .exit))
+        (now (edges .exit))
+        (now (distances .entry)) (now (distances .exit)) ⌝ }
 {
     let level = field_and_level(
         points,
@@ -119,7 +138,13 @@ pub fn draw(
     edges: &mut [u32],
 ) -> MeshSize
     requires { ⌜ Drawable (usables (now points)) settings g level (now vertices) (now faces) (now field) (now a) (now b) (now c) (now edges) ⌝ }
-    ensures { λ r. ⌜ Drawn (usables (now (points .entry))) settings r (now (vertices .entry)) (now (vertices .exit)) (now (faces .entry)) (now (faces .exit)) (now (a .entry)) (now (a .exit)) (now (b .entry)) (now (b .exit)) (now (c .entry)) (now (c .exit)) (now (edges .entry)) (now (edges .exit)) ⌝ }
+    ensures { λ r. ⌜ Drawn (usables (now (points .entry))) settings r
+        (now (vertices .entry)) (now (vertices .exit))
+        (now (faces .entry)) (now (faces .exit))
+        (now (a .entry)) (now (a .exit))
+        (now (b .entry)) (now (b .exit))
+        (now (c .entry)) (now (c .exit))
+        (now (edges .entry)) (now (edges .exit)) ⌝ }
 {
     extract::write_mesh(field, g.lattice(), level, edges, vertices, faces);
     orientation::orient(g, field, vertices, faces);

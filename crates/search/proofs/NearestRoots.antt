@@ -6,7 +6,7 @@ use mathlib.Core.Bool.{Bool, true, false, cond, not, _&&_, _||_, true≢false, f
 use mathlib.Core.List.{List, [], _∷_, map, foldl}
 use lib.Ieee.{Float, nan, inf, fin, binary32, sub, lt, isNan}
 use Rattle.numbers.specs.Arithmetic.{rooted}
-use Rattle.numbers.specs.SumOfSquares.{mul-square, add-square, mul-nan, add-nan, sub-nan}
+use Rattle.numbers.specs.SumOfSquares.{mul-square, add-square, is-nan-mul, is-nan-add, is-nan-sub}
 use Rattle.numbers.specs.RootSquares.{HeldSquare, root-nan, roots-agree}
 use Rattle.lists.specs.Lists.{at}
 use Rattle.points.specs.declared.point.Point.{Point}
@@ -52,8 +52,8 @@ square-nan q p h =
     let dz = sub binary32 (at (p .at) 2) (at q 2) in
     let xx = mul-square binary32 dx in
     let yy = mul-square binary32 dy in
-    add-nan binary32 _ _ (add-square binary32 _ _ xx yy) (mul-square binary32 dz)
-    ∙ rw (add-nan binary32 _ _ xx yy, mul-nan binary32 dx, mul-nan binary32 dy, mul-nan binary32 dz, sub-nan binary32 _ (at q 0) (h .x), sub-nan binary32 _ (at q 1) (h .y), sub-nan binary32 _ (at q 2) (h .z))
+    is-nan-add binary32 _ _ (add-square binary32 _ _ xx yy) (mul-square binary32 dz)
+    ∙ rw (is-nan-add binary32 _ _ xx yy, is-nan-mul binary32 dx, is-nan-mul binary32 dy, is-nan-mul binary32 dz, is-nan-sub binary32 _ (at q 0) (h .x), is-nan-sub binary32 _ (at q 1) (h .y), is-nan-sub binary32 _ (at q 2) (h .z))
 
 -- one of the squares of a query, where b says whether they are NaN
 record Term (b : Bool) (x : Float) : Type 0 where

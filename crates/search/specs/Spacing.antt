@@ -3,7 +3,8 @@ use mathlib.Core.Bool.{cond}
 use mathlib.Core.List.{List, [], _∷_, _++_}
 use Prim.Native.Nat.{ℕ, _/_}
 use lib.ListN.{length, getD}
-use lib.Ieee.{Float, binary64, ofBits, mul, lt}
+use lib.Ieee.{Float, binary64, mul, lt}
+use Rattle.numbers.specs.Constants.{millionth64}
 use Rattle.numbers.specs.Arithmetic.{largest}
 use Rattle.lists.specs.Lists.{zero32}
 use Rattle.lists.specs.EveryNth.{strideFor, everyFrom}
@@ -50,4 +51,4 @@ medianOf l = getD (sorted lt l) (length l / 2) zero32
 -- ---- points 0, s, 2s.. with s = max(count/1000, 1); then the larger of their median gap and extent·1e-6
 
 unfoldable pub spacingOf : List Point → Float → Float
-spacingOf ps extent = largest (medianOf (gapsBy (strideFor 1000 (length ps)) ps ps)) (mul binary64 extent (ofBits binary64 0x3EB0_C6F7_A0B5_ED8D))
+spacingOf ps extent = largest (medianOf (gapsBy (strideFor 1000 (length ps)) ps ps)) (mul binary64 extent millionth64)

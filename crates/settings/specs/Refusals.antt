@@ -1,11 +1,12 @@
 -- Document 01, "Numbers of refusal, in order of checking": each line of the column "Given exactly when" as a verdict, in the column's order.
 -- Definitions only; assumes nothing.
-use mathlib.Core.Bool.{Bool, true, false, cond, not, _||_}
+use mathlib.Core.Bool.{Bool, false, cond, not, _||_}
 use mathlib.Core.List.{List, [], _∷_}
 use Prim.Native.Nat.{ℕ, _*_, _%_, _^_}
 use lib.Dec.{ltb, eqb}
 use lib.ListN.{length}
-use lib.Ieee.{Float, ofBits, binary64, lt, eq}
+use lib.Ieee.{Float, lt, eq}
+use Rattle.numbers.specs.Constants.{zero64}
 use Rattle.lists.specs.Lists.{zero32}
 use Rattle.points.specs.Points.{numbersPerPoint, given}
 use Rattle.settings.specs.declared.Settings.{Settings}
@@ -13,17 +14,6 @@ use Rattle.settings.specs.declared.Lengths.{Lengths}
 use Rattle.settings.specs.declared.Verdict.{Verdict}
 use Rattle.settings.specs.declared.Verdict.the-variants.{Pass, PointSlice, NoPoints, Depth, Smoothing, ScratchRoom, TooFew, Flat, VertexRoom, FaceRoom, NoFace}
 use Rattle.settings.specs.Answers.{accepts}
-
--- how long the lent slices are: the two for the mesh, the seven of a value a node, the edge table, and the one of a distance a point
-abbrev pub lengthsOf : (vs : List Float) (fs : List ℕ) (s0 s1 s2 s3 s4 s5 s6 : List Float) (edges : List ℕ) (distances : List Float) → Lengths
-lengthsOf vs fs s0 s1 s2 s3 s4 s5 s6 edges distances =
-    record {
-      vertices = length vs;
-      faces = length fs;
-      grids = length s0 ∷ length s1 ∷ length s2 ∷ length s3 ∷ length s4 ∷ length s5 ∷ length s6 ∷ [];
-      edges = length edges;
-      distances = length distances;
-    }
 
 -- the verdict v where the test holds
 infix 30 _when_
@@ -78,7 +68,7 @@ usableVerdict usable = TooFew when ltb usable 10
 
 -- 5: largest extent is zero
 unfoldable pub extentVerdict : (extent : Float) → Verdict
-extentVerdict extent = Flat when eq extent (ofBits binary64 0)
+extentVerdict extent = Flat when eq extent zero64
 
 -- 9: vertex slice shorter than 3V of the untrimmed mesh
 unfoldable pub vertexRoomVerdict : (vertices : ℕ) → Lengths → Verdict

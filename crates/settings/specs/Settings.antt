@@ -1,5 +1,6 @@
 -- Document 01, "What crosses the counter": the settings that a call has where none are given. Definitions only; assumes nothing.
-use lib.Ieee.{ofBits, binary32, binary64}
+use Rattle.numbers.specs.Constants.{one32, tenThousandth64}
+use Rattle.lists.specs.Lists.{zero32}
 use Rattle.settings.specs.declared.Settings.{Settings}
 use Rattle.settings.specs.declared.Trimming.the-variants.{Off}
 
@@ -8,9 +9,9 @@ abbrev pub defaults : Settings
 defaults =
     record {
       depth = 7;
-      smoothing = ofBits binary32 0x3F80_0000;
-      «iso_offset» = ofBits binary32 0;
+      smoothing = one32;
+      «iso_offset» = zero32;
       trimming = Off;
       «max_iterations» = 1000;
-      tolerance = ofBits binary64 0x3F1A_36E2_EB1C_432D;
+      tolerance = tenThousandth64;
     }

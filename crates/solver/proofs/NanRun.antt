@@ -11,7 +11,8 @@ use Rattle.numbers.specs.Arithmetic.{narrowed}
 use Rattle.grid.specs.declared.Grid.{Grid}
 use Rattle.grid.specs.Grid.{allNodes}
 use Rattle.laplacian.specs.Laplacian.{applied}
-use Rattle.vectors.specs.Vectors.{dotted, zero64, plusAt, minusAt}
+use Rattle.numbers.specs.Constants.{zero64}
+use Rattle.vectors.specs.Vectors.{dotted, plusAt, minusAt}
 use Rattle.numbers.specs.NanThrough.{add-nan, sub-nan, nan-mul, nan-div, nan-narrowed, nan-rooted, nan-le}
 use Rattle.vectors.specs.Dotted.{dotted-nan}
 use Rattle.solver.specs.Solver.{State, papOf, stops, alphaOf, next, steps}

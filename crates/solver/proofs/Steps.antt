@@ -12,7 +12,8 @@ use Rattle.numbers.specs.Arithmetic.{rooted, narrowed}
 use Rattle.grid.specs.declared.Grid.{Grid}
 use Rattle.grid.specs.Grid.{Sides, allNodes}
 use Rattle.laplacian.specs.Laplacian.{applied}
-use Rattle.vectors.specs.Vectors.{dotted, zero64, plusAt, minusAt, lessAt}
+use Rattle.numbers.specs.Constants.{zero64}
+use Rattle.vectors.specs.Vectors.{dotted, plusAt, minusAt, lessAt}
 use Rattle.solver.specs.Solver.{State, started, papOf, stops, alphaOf, next, steps, normOf, conjugate}
 use Rattle.solver.specs.Inner.{Updated}
 use Rattle.solver.proofs.NanRun.{nan-next, nan-steps}

@@ -17,7 +17,8 @@ use Rattle.numbers.specs.Symmetry.{round-zero}
 use Rattle.grid.specs.declared.Grid.{Grid}
 use Rattle.grid.specs.Grid.{allNodes}
 use Rattle.laplacian.specs.Laplacian.{applyAt, applied, stencilAt}
-use Rattle.vectors.specs.Vectors.{dotted, zero64, plusAt, minusAt, lessAt}
+use Rattle.numbers.specs.Constants.{zero64}
+use Rattle.vectors.specs.Vectors.{dotted, plusAt, minusAt, lessAt}
 use Rattle.numbers.specs.NanThrough.{nan-add, add-nan, mul-nan, nan-sub, sub-nan}
 use Rattle.solver.specs.Solver.{State, started, stops, alphaOf, next, steps, normOf, conjugate}
 use Rattle.solver.specs.Boundary.{BoundaryIs, ZeroOrNan, BoundaryUniform}

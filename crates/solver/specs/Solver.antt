@@ -9,7 +9,8 @@ use Rattle.numbers.specs.Arithmetic.{rooted, narrowed}
 use Rattle.grid.specs.declared.Grid.{Grid}
 use Rattle.grid.specs.Grid.{allNodes}
 use Rattle.laplacian.specs.Laplacian.{applied}
-use Rattle.vectors.specs.Vectors.{zero64, dotted, plusAt, minusAt, lessAt}
+use Rattle.numbers.specs.Constants.{zero64}
+use Rattle.vectors.specs.Vectors.{dotted, plusAt, minusAt, lessAt}
 
 -- ---- conjugate gradients: the solution so far, the residual, the direction, and rr = r·r
 

@@ -2,7 +2,7 @@
 use mathlib.Core.List.{[], _∷_}
 use Prim.Native.Nat.{ℕ}
 use Rattle.grid.specs.declared.Grid.{Grid}
-use Rattle.vectors.specs.Vectors.{zero64}
+use Rattle.numbers.specs.Constants.{zero64}
 
 abbrev pub gridOfSide : (nodes : ℕ) → Grid
 gridOfSide nodes = record { nodes = nodes; origin = zero64 ∷ zero64 ∷ zero64 ∷ []; step = zero64 }

@@ -7,12 +7,13 @@ use lib.IntN.{pos}
 use lib.ListN.{length}
 use lib.Ieee.{Float, binary64, ofInt, add, div, lt}
 use Rattle.lists.specs.Lists.{at, zero32}
+use Rattle.numbers.specs.Constants.{minusZero64}
 use Rattle.numbers.specs.Arithmetic.{narrowed}
 use Rattle.grid.specs.declared.Grid.{Grid}
 use Rattle.grid.specs.Grid.{sampled}
 use Rattle.points.specs.declared.point.Point.{Point}
 use Rattle.points.specs.Points.{positionOf}
-use Rattle.orientation.specs.Orientation.{minusZero, vertexCount, vertexAt}
+use Rattle.orientation.specs.Orientation.{vertexCount, vertexAt}
 use Rattle.surface.specs.declared.reach.VertexBox.{VertexBox}
 
 -- ---- level: mean of samples at usable points plus offset, narrowed
@@ -21,7 +22,7 @@ abbrev pub plusSample : Grid → List Float → Float → Point → Float
 plusSample g values sum p = add binary64 sum (sampled g values (positionOf p))
 
 unfoldable pub levelOf : Grid → List Float → List Point → Float → Float
-levelOf g values ps offset = narrowed (add binary64 (div binary64 (foldl (plusSample g values) minusZero ps) (ofInt binary64 (pos (length ps)))) offset)
+levelOf g values ps offset = narrowed (add binary64 (div binary64 (foldl (plusSample g values) minusZero64 ps) (ofInt binary64 (pos (length ps)))) offset)
 
 -- ---- the box of the vertices
 

@@ -11,7 +11,8 @@ use Rattle.lists.specs.Tabulate.{length-tabulate, at-tabulate, of-size}
 use Rattle.lists.specs.Fill.{Filled, filled-none, filled-more, filled-now, filled-done}
 use Rattle.grid.specs.declared.Grid.{Grid}
 use Rattle.grid.specs.Grid.{allNodes}
-use Rattle.vectors.specs.Vectors.{zero64, dotted, plusAt, minusAt}
+use Rattle.numbers.specs.Constants.{zero64}
+use Rattle.vectors.specs.Vectors.{dotted, plusAt, minusAt}
 use Rattle.vectors.specs.Dotted.{Summed, summed-none, summed-more, summed-done}
 use Rattle.vectors.specs.Slices.{Advanced}
 

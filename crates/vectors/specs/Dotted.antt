@@ -12,7 +12,8 @@ use lib.Ieee.{Float, nan, binary64, add, mul}
 use Rattle.lists.specs.Lists.{at}
 use Rattle.grid.specs.declared.Grid.{Grid}
 use Rattle.grid.specs.Grid.{allNodes}
-use Rattle.vectors.specs.Vectors.{zero64, dotTo, dotted}
+use Rattle.numbers.specs.Constants.{zero64}
+use Rattle.vectors.specs.Vectors.{dotTo, dotted}
 use Rattle.numbers.specs.NanThrough.{nan-add, add-nan, nan-mul}
 
 -- ---- a loop's start, its turn and its end: s is the sum of the first i products

@@ -1,15 +1,13 @@
 -- Document 01, "Solver", its dot product, and the sums over all nodes that a step makes. Values at the nodes are f32 and sums over them f64. Definitions only; assumes nothing.
 use mathlib.Core.List.{List}
 use Prim.Native.Nat.{ℕ}
-use lib.Ieee.{Float, binary32, binary64, ofBits, add, sub, mul}
+use lib.Ieee.{Float, binary32, binary64, add, sub, mul}
+use Rattle.numbers.specs.Constants.{zero64}
 use Rattle.lists.specs.Lists.{at, foldTo}
 use Rattle.grid.specs.declared.Grid.{Grid}
 use Rattle.grid.specs.Grid.{allNodes}
 
 -- ---- the dot product: f64, index order, from +0.0
-
-abbrev pub zero64 : Float
-zero64 = ofBits binary64 0
 
 -- a sum with the product at k. An f32 is the same number at f64, so the terms are multiplied as they are
 abbrev pub withProduct : (a b : List Float) (s : Float) (k : ℕ) → Float

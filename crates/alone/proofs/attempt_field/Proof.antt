@@ -1,5 +1,5 @@
 -- A refusal clears the values' slice; once the checks pass, all scratch is as long as stated (`rooms`), and parts of exactly that length are handed on.
-use mathlib.Core.Path.{_≡_, sym, _∙_, subst}
+use mathlib.Core.Path.{sym, _∙_, subst}
 use Prim.Native.Nat.{ℕ, _^_, _≤_}
 use lib.ListN.{length}
 use lib.Seq.{length-take-le}
@@ -7,7 +7,7 @@ use denote.Ref.{now}
 use Rattle.settings.proofs.Verdicts.{refuses}
 use Rattle.settings.specs.declared.Lengths.{Lengths}
 use Rattle.settings.specs.Passed.{Fit, ChecksPassed}
-use Rattle.alone.specs.Outcome.{fieldLengths}
+use Rattle.scan.specs.FieldAlone.{fieldLengths}
 use Rattle.alone.proofs.Results.{field-refused, field-ready, field-passed}
 use borrow.Author.Needs.{needs}
 use Rattle.alone.proofs.attempt_field.Statement.{statement}
@@ -29,7 +29,18 @@ passed c = entry (inspected c)
 abbrev lent : tie.Start → Lengths
 lent s =
     let x = s .args in
-    fieldLengths (now (x .s0)) (now (x .s1)) (now (x .s2)) (now (x .s3)) (now (x .s4)) (now (x .s5)) (now (x .s6)) (now (x .edges)) (now (x .distances))
+    fieldLengths
+    (record {
+      s0 = now (x .s0);
+      s1 = now (x .s1);
+      s2 = now (x .s2);
+      s3 = now (x .s3);
+      s4 = now (x .s4);
+      s5 = now (x .s5);
+      s6 = now (x .s6);
+      edges = now (x .edges);
+      distances = now (x .distances);
+    })
 
 -- what the checks tell, and that the values have room
 ready : (c : tie.After-enum-told) → ChecksPassed (now (passed c .args .points)) (passed c .args .settings) (lent (passed c)) × (8 ^ passed c .args .settings .depth ≤ length (now (passed c .args .field)))

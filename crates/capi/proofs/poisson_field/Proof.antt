@@ -1,13 +1,8 @@
--- What is done is told: the answer's fields, and the slices as the call left them.
-use mathlib.Core.Path.{ap, _∙_}
-use lib.ListN.{length}
+-- What is done is told: the answer's fields, and the slices as the call left them, for the settings that were put together.
+use mathlib.Core.Path.{refl, ap}
 use denote.Ref.{now}
-use Rattle.lists.specs.Lists.{zero32, padded}
-use Rattle.settings.specs.declared.Answer.{Answer}
-use Rattle.settings.specs.declared.Settings.{Settings}
-use Rattle.scan.specs.FieldAlone.{FieldResults, fieldResults}
-use Rattle.alone.specs.Outcome.{fieldLengths}
-use Rattle.capi.specs.Flat.{countsOf, valuesOf}
+use Rattle.scan.specs.FieldAlone.{fieldResults}
+use Rattle.alone.proofs.Results.{carry-field}
 use borrow.Author.Needs.{needs}
 use Rattle.capi.proofs.poisson_field.Statement.{statement}
 use Rattle.capi.proofs.poisson_field.Tie as tie
@@ -56,19 +51,15 @@ same-length-10 c = search needs
 
 returns : tie.Need-returns
 returns c =
-    let made = c .before .before .before .before .before .before .before .before .before .before .before .before .before .before .before .before .before .before .before .before .before .before .before .before in
+    let made =
+    c .before .before .before .before .before .before .before .before .before .before .before .before .before
+    .before .before .before .before .before .before .before .before .before .before .before in
     let given = made .before .before .before .before .before .before .before .before .before .before .before in
     let x = given .before .before .before .before .before .before .before .before .before .before .before .before .args in
-    let lengths = fieldLengths (now (x .s0)) (now (x .s1)) (now (x .s2)) (now (x .s3)) (now (x .s4)) (now (x .s5)) (now (x .s6)) (now (x .edges)) (now (x .distances)) in
-    let same = ap (λ (st : Settings). fieldResults (now (x .points)) st lengths (length (now (x .field)))) (given .settings-from .ensures) in
-    let done = made .poisson-field .ensures in
-    let answered = done .answered ∙ ap (λ (d : FieldResults). d .answer) same in
     record {
-      number-is = ap (λ (a : Answer). a .number) answered;
-      counts-are = c .before .before .put-counts .ensures ∙ ap countsOf answered;
-      values-are = c .put-values .ensures ∙ ap valuesOf answered;
-      field-is = done .values ∙ ap (λ (d : FieldResults). padded zero32 (length (now (x .field))) (d .values)) same;
-      scratch = done .scratch;
+      answer = made .poisson-field .result;
+      told = record { number-is = refl; counts-are = c .before .before .put-counts .ensures; values-are = c .put-values .ensures };
+      done = carry-field (ap (fieldResults (now (x .points))) (given .settings-from .ensures)) (made .poisson-field .ensures);
     }
 
 pub poisson-field-spec : {M : Type 1} → statement M

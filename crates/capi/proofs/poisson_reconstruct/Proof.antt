@@ -1,11 +1,7 @@
--- What is done is told: the answer's fields, and the slices as the call left them.
-use mathlib.Core.Path.{ap, _∙_}
-use Rattle.settings.specs.declared.Answer.{Answer}
-use Rattle.capi.specs.Flat.{countsOf, valuesOf}
+-- What is done is told: the answer's fields, and the slices as the call left them, for the settings that were put together.
+use mathlib.Core.Path.{refl, ap}
 use denote.Ref.{now}
-use Rattle.settings.specs.declared.Settings.{Settings}
 use Rattle.scan.specs.Reconstruction.{reconstructed}
-use Rattle.settings.specs.Refusals.{lengthsOf}
 use Rattle.poisson.proofs.Finishing.{carry}
 use borrow.Author.Needs.{needs}
 use Rattle.capi.proofs.poisson_reconstruct.Statement.{statement}
@@ -58,18 +54,15 @@ same-length-11 c = search needs
 
 returns : tie.Need-returns
 returns c =
-    let made = c .before .before .before .before .before .before .before .before .before .before .before .before .before .before .before .before .before .before .before .before .before .before .before .before .before .before in
+    let made =
+    c .before .before .before .before .before .before .before .before .before .before .before .before .before
+    .before .before .before .before .before .before .before .before .before .before .before .before .before in
     let given = made .before .before .before .before .before .before .before .before .before .before .before .before in
     let x = given .before .before .before .before .before .before .before .before .before .before .before .before .before .args in
-    let lengths = lengthsOf (now (x .vertices)) (now (x .faces)) (now (x .s0)) (now (x .s1)) (now (x .s2)) (now (x .s3)) (now (x .s4)) (now (x .s5)) (now (x .s6)) (now (x .edges)) (now (x .distances)) in
-    let done = carry (ap (λ (st : Settings). reconstructed (now (x .points)) st lengths) (given .settings-from .ensures)) (made .poisson-reconstruction .ensures) in
     record {
-      number-is = ap (λ (a : Answer). a .number) (done .answered);
-      counts-are = c .before .before .put-counts .ensures ∙ ap countsOf (done .answered);
-      values-are = c .put-values .ensures ∙ ap valuesOf (done .answered);
-      vertices = done .vertices;
-      faces = done .faces;
-      scratch = done .scratch;
+      answer = made .poisson-reconstruction .result;
+      told = record { number-is = refl; counts-are = c .before .before .put-counts .ensures; values-are = c .put-values .ensures };
+      done = carry (ap (reconstructed (now (x .points))) (given .settings-from .ensures)) (made .poisson-reconstruction .ensures);
     }
 
 pub poisson-reconstruct-spec : {M : Type 1} → statement M

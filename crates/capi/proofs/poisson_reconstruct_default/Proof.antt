@@ -1,7 +1,5 @@
 -- What is done is told: the answer's fields, and the slices as the call left them.
-use mathlib.Core.Path.{_≡_, ap, _∙_}
-use Rattle.settings.specs.declared.Answer.{Answer}
-use Rattle.capi.specs.Flat.{countsOf, valuesOf}
+use mathlib.Core.Path.{refl}
 use borrow.Author.Needs.{needs}
 use Rattle.capi.proofs.poisson_reconstruct_default.Statement.{statement}
 use Rattle.capi.proofs.poisson_reconstruct_default.Tie as tie
@@ -50,14 +48,13 @@ same-length-11 c = search needs
 
 returns : tie.Need-returns
 returns c =
-    let done = c .before .before .before .before .before .before .before .before .before .before .before .before .before .before .before .before .before .before .before .before .before .before .before .before .before .before .poisson-reconstruction-default .ensures in
+    let made =
+    c .before .before .before .before .before .before .before .before .before .before .before .before .before
+    .before .before .before .before .before .before .before .before .before .before .before .before .before .poisson-reconstruction-default in
     record {
-      number-is = ap (λ (a : Answer). a .number) (done .answered);
-      counts-are = c .before .before .put-counts .ensures ∙ ap countsOf (done .answered);
-      values-are = c .put-values .ensures ∙ ap valuesOf (done .answered);
-      vertices = done .vertices;
-      faces = done .faces;
-      scratch = done .scratch;
+      answer = made .result;
+      told = record { number-is = refl; counts-are = c .before .before .put-counts .ensures; values-are = c .put-values .ensures };
+      done = made .ensures;
     }
 
 pub poisson-reconstruct-default-spec : {M : Type 1} → statement M

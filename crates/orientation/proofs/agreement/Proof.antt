@@ -6,16 +6,17 @@ use native.Mathlib.Omega.{arith}
 use borrow.Author.Needs.{needs}
 use lib.Ieee.{binary64, add}
 use denote.Ref.{now}
+use Rattle.numbers.specs.Constants.{minusZero64}
 use Rattle.closed.specs.Faces as Flat
 use Rattle.lists.specs.EveryNth.{strideFor, everyFrom}
-use Rattle.orientation.specs.Orientation.{faceCount, minusZero, signAt, plusSign, agreementOf}
+use Rattle.orientation.specs.Orientation.{faceCount, signAt, plusSign, agreementOf}
 use Rattle.orientation.specs.FlatFaces.{noFace, face-read, meshed-faces, meshed-face}
 use Rattle.orientation.proofs.EveryOther.{Asking, asking-none, asking-more, asking-done}
 use Rattle.orientation.proofs.agreement.Statement.{statement}
 use Rattle.orientation.proofs.agreement.Tie as tie
 
 abbrev Inv-loop : tie.InvT-loop
-Inv-loop g values vertices faces count s sum₀ t₀ sum t = Asking (plusSign g values vertices) minusZero (Flat.faces faces) s sum t
+Inv-loop g values vertices faces count s sum₀ t₀ sum t = Asking (plusSign g values vertices) minusZero64 (Flat.faces faces) s sum t
 
 abbrev μ-loop : tie.MeasureT-loop
 μ-loop g values vertices faces count s sum₀ t₀ sum t = count - t
@@ -57,7 +58,7 @@ returns c =
     let m = s .pre .1 .1 in
     let fs = Flat.faces (now (s .args .faces)) in
     asking-done (c .before .loop .inv) (omega (arith, meshed-faces m))
-    ∙ ap (λ (n : ℕ). foldl (plusSign (s .args .g) (now (s .args .values)) (now (s .args .vertices))) minusZero (everyFrom n 0 fs)) (c .before .before .stride .ensures ∙ ap (strideFor 500) (sym (meshed-faces m)))
+    ∙ ap (λ (n : ℕ). foldl (plusSign (s .args .g) (now (s .args .values)) (now (s .args .vertices))) minusZero64 (everyFrom n 0 fs)) (c .before .before .stride .ensures ∙ ap (strideFor 500) (sym (meshed-faces m)))
 
 pub agreement-spec : {M : Type 1} → statement M
 agreement-spec =

@@ -1,5 +1,5 @@
 -- A refusal of the first checks stands; once they pass, all scratch is as long as stated (`rooms`), and parts of exactly that length are handed on.
-use mathlib.Core.Path.{_≡_, refl, sym, ap, _∙_, subst}
+use mathlib.Core.Path.{refl, sym, ap, _∙_, subst}
 use Rattle.settings.proofs.Verdicts.{refuses}
 use Prim.Native.Nat.{ℕ, _*_, _≤_}
 use native.Mathlib.Omega.{arith}
@@ -8,7 +8,7 @@ use lib.Seq.{length-take-le}
 use denote.Ref.{now}
 use Rattle.settings.specs.declared.Lengths.{Lengths}
 use Rattle.settings.specs.Passed.{Fit, ChecksPassed}
-use Rattle.settings.specs.Refusals.{lengthsOf}
+use Rattle.scan.specs.Reconstruction.{lengthsOf}
 use Rattle.poisson.proofs.Finishing.{first-refused, first-ready, first-passed}
 use borrow.Author.Needs.{needs}
 use Rattle.poisson.proofs.attempt.Statement.{statement}
@@ -27,7 +27,22 @@ passed c = c .before .before .before
 abbrev lent : tie.Start → Lengths
 lent c =
     let x = c .args in
-    lengthsOf (now (x .vertices)) (now (x .faces)) (now (x .s0)) (now (x .s1)) (now (x .s2)) (now (x .s3)) (now (x .s4)) (now (x .s5)) (now (x .s6)) (now (x .edges)) (now (x .distances))
+    lengthsOf
+    (record {
+      vertices = now (x .vertices);
+      faces = now (x .faces);
+      scratch = record {
+        s0 = now (x .s0);
+        s1 = now (x .s1);
+        s2 = now (x .s2);
+        s3 = now (x .s3);
+        s4 = now (x .s4);
+        s5 = now (x .s5);
+        s6 = now (x .s6);
+        edges = now (x .edges);
+        distances = now (x .distances);
+      };
+    })
 
 at-told : (c : tie.After-enum-told) → ChecksPassed (now (entry (c .before .before) .args .points)) (entry (c .before .before) .args .settings) (lent (entry (c .before .before)))
 at-told c =

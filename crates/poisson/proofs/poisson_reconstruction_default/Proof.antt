@@ -1,9 +1,7 @@
 -- The call with the settings that `Settings::new` gives, which are the defaults.
-use mathlib.Core.Path.{_≡_, ap}
+use mathlib.Core.Path.{ap}
 use denote.Ref.{now}
-use Rattle.settings.specs.declared.Settings.{Settings}
 use Rattle.scan.specs.Reconstruction.{reconstructed}
-use Rattle.settings.specs.Refusals.{lengthsOf}
 use Rattle.poisson.proofs.Finishing.{carry}
 use borrow.Author.Needs.{needs}
 use Rattle.poisson.proofs.poisson_reconstruction_default.Statement.{statement}
@@ -64,7 +62,9 @@ same-length-11 c = search needs
 returns : tie.Need-returns
 returns c =
     let x = entry (after-new (after-poisson-reconstruction c)) .args in
-    carry (ap (λ (st : Settings). reconstructed (now (x .points)) st (lengthsOf (now (x .vertices)) (now (x .faces)) (now (x .s0)) (now (x .s1)) (now (x .s2)) (now (x .s3)) (now (x .s4)) (now (x .s5)) (now (x .s6)) (now (x .edges)) (now (x .distances)))) (after-new (after-poisson-reconstruction c) .new .ensures)) (after-poisson-reconstruction c .poisson-reconstruction .ensures)
+    carry
+    (ap (reconstructed (now (x .points))) (after-new (after-poisson-reconstruction c) .new .ensures))
+    (after-poisson-reconstruction c .poisson-reconstruction .ensures)
 
 pub poisson-reconstruction-default-spec : {M : Type 1} → statement M
 poisson-reconstruction-default-spec =

@@ -4,7 +4,8 @@ use native.Mathlib.Omega.{arith}
 use denote.Ref.{now}
 use Rattle.lists.specs.Lists.{zeros32}
 use Rattle.points.specs.Points.{usables}
-use Rattle.scan.proofs.Preparing.{cubed, nodes-cubed, field-is, grid-is, level-is}
+use Rattle.scan.specs.FieldLength.{cubed}
+use Rattle.scan.proofs.Preparing.{nodes-cubed, field-is, grid-is, level-is}
 use borrow.Author.Needs.{needs}
 use Rattle.scan.proofs.field_and_level.Statement.{statement}
 use Rattle.scan.proofs.field_and_level.Tie as tie

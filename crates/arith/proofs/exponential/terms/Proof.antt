@@ -2,7 +2,8 @@
 use mathlib.Core.Path.{_≡_, refl, sym, ap, _∙_}
 use Prim.Native.Nat.{ℕ, _≤_}
 use native.Mathlib.Omega.{arith}
-use Rattle.numbers.specs.Arithmetic.{one64, series}
+use Rattle.numbers.specs.Constants.{one64}
+use Rattle.numbers.specs.Arithmetic.{series}
 use Rattle.numbers.specs.Series.{series-step}
 use Rattle.arith.proofs.exponential.terms.Statement.{statement}
 use Rattle.arith.proofs.exponential.terms.Tie as tie

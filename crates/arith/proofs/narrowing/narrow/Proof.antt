@@ -4,7 +4,7 @@ use mathlib.Core.Bool.{false, not}
 use native.Mathlib.Omega.{arith}
 use lib.Dec.{T}
 use lib.Ieee.{Float, binary64, fits, isNan}
-use Rattle.numbers.specs.NarrowPattern.{bits-lt, under-nan, fits-32, no-nan, narrowed-is, not-nan, nan-narrows}
+use Rattle.numbers.specs.NarrowPattern.{bits-lt, under-nan, fits-32, narrowed-no-nan, narrowed-is, not-nan, nan-narrows}
 use Rattle.arith.proofs.narrowing.narrow.Statement.{statement}
 use Rattle.arith.proofs.narrowing.narrow.Tie as tie
 
@@ -40,7 +40,7 @@ cast-result c =
 float-from-bits-result : tie.Need-float-from-bits-result
 float-from-bits-result c =
     let t = c .before in
-    no-nan (x (t .before)) (held (t .before)) (number t) (c .magnitude .result) (c .magnitude .ensures)
+    narrowed-no-nan (x (t .before)) (held (t .before)) (number t) (c .magnitude .result) (c .magnitude .ensures)
 
 returns : tie.Need-returns
 returns c =

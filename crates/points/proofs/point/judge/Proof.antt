@@ -1,5 +1,6 @@
 -- `points::point::judge` meets its contract: the definition makes the same two tests. Assumes nothing.
 use mathlib.Core.Path.{sym, _∙_}
+use Rattle.numbers.specs.ConstantValues.{trillionth-is}
 use Rattle.points.specs.Points.{lengthUsability}
 use borrow.Author.Needs.{needs}
 use Rattle.points.proofs.point.judge.Statement.{statement}
@@ -10,11 +11,11 @@ finite-requires c κs = search needs
 
 returns : tie.Need-returns
 unfolding lengthUsability
-returns c = rw (sym (c .before .before .finite .ensures) ∙ c .before .if1 .taken, c .if2 .taken)
+returns c = rw (sym (c .before .before .finite .ensures) ∙ c .before .if1 .taken, trillionth-is, c .if2 .taken)
 
 returns-2 : tie.Need-returns-2
 unfolding lengthUsability
-returns-2 c = rw (sym (c .before .before .finite .ensures) ∙ c .before .if1 .taken, c .if2 .left)
+returns-2 c = rw (sym (c .before .before .finite .ensures) ∙ c .before .if1 .taken, trillionth-is, c .if2 .left)
 
 returns-3 : tie.Need-returns-3
 unfolding lengthUsability

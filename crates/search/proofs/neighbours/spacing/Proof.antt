@@ -1,5 +1,6 @@
 -- `search::spacing` meets its contract: the larger of the median and its floor, and the list cleared. Assumes nothing.
 use mathlib.Core.Path.{_∙_, ap}
+use Rattle.numbers.specs.ConstantValues.{millionth-is}
 use Rattle.search.specs.Spacing.{spacingOf}
 use Rattle.lists.specs.Lists.{zeros32}
 use borrow.Author.Needs.{needs}
@@ -26,7 +27,7 @@ same-length c = search needs
 
 returns : tie.Need-returns
 unfolding spacingOf
-returns c = (rw (c .largest .ensures, c .before .widen .ensures, c .before .before .before .before .before .before .before .before .median .ensures, c .before .before .before .before .before .before .before .before .before .stride .ensures), c .before .before .before .before .clear-f32 .ensures ∙ ap zeros32 (c .before .before .before .before .before .before .before .before .median .kept .1 .0))
+returns c = (rw (millionth-is, c .largest .ensures, c .before .widen .ensures, c .before .before .before .before .before .before .before .before .median .ensures, c .before .before .before .before .before .before .before .before .before .stride .ensures), c .before .before .before .before .clear-f32 .ensures ∙ ap zeros32 (c .before .before .before .before .before .before .before .before .median .kept .1 .0))
 
 pub spacing-spec : {M : Type 1} → statement M
 spacing-spec =

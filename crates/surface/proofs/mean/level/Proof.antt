@@ -8,16 +8,16 @@ use lib.ListN.{length}
 use lib.Ieee.{binary64, inFloat, add}
 use denote.Ref.{now}
 use borrow.Author.Needs.{needs}
+use Rattle.numbers.specs.Constants.{minusZero64}
 use Rattle.grid.specs.Grid.{sampled}
 use Rattle.points.specs.Points.{given, usables}
 use Rattle.points.specs.UsableLoop.{FoldedUsable, folded-none, folded-used, folded-skipped, folded-done, count-le}
-use Rattle.orientation.specs.Orientation.{minusZero}
 use Rattle.surface.specs.Surface.{plusSample, levelOf}
 use Rattle.surface.proofs.mean.level.Statement.{statement}
 use Rattle.surface.proofs.mean.level.Tie as tie
 
 abbrev Inv-loop : tie.InvT-loop
-Inv-loop g values points offset all sum₀ i₀ sum i = FoldedUsable (plusSample g values) minusZero points sum i
+Inv-loop g values points offset all sum₀ i₀ sum i = FoldedUsable (plusSample g values) minusZero64 points sum i
 
 abbrev μ-loop : tie.MeasureT-loop
 μ-loop g values points offset all sum₀ i₀ sum i = all - i
