@@ -1,2 +1,3 @@
 -- Laws that no one function owns.
 pub mod Counts
+pub mod OneAnswer

@@ -2,3 +2,4 @@
 pub mod Leading
 pub mod Located
 pub mod Cut
+pub mod OneAnswer

@@ -1,0 +1,2 @@
+-- No second outcome fits the contracts of this crate.
+pub mod OneAnswer
