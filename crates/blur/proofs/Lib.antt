@@ -4,3 +4,4 @@ pub mod Moved
 pub mod Terms
 pub mod Runs
 pub mod Axes
+pub mod OneAnswer

@@ -1,3 +1,4 @@
 -- The laws that the proofs of this crate share.
 pub mod RightSide
 pub mod Corners
+pub mod OneAnswer
