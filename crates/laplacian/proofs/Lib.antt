@@ -1,3 +1,4 @@
 -- Laws that no one function owns.
 pub mod InnerRow
 pub mod ApplyRows
+pub mod OneAnswer

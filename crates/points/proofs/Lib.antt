@@ -1,3 +1,4 @@
 -- The laws that the functions' proofs cite.
 pub mod FiniteTest
 pub mod QuickLength
+pub mod OneAnswer

@@ -3,3 +3,4 @@ pub mod NearestRoots
 pub mod SomeUsable
 pub mod Carry
 pub mod Gaps
+pub mod OneAnswer

@@ -1,2 +1,3 @@
 -- The law that the functions' proofs cite.
 pub mod Verdicts
+pub mod OneAnswer

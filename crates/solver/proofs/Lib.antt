@@ -1,3 +1,4 @@
 -- Laws that no one function owns.
 pub mod NanRun
 pub mod Steps
+pub mod OneAnswer
