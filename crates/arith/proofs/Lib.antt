@@ -1,2 +1,2 @@
--- What no one function owns: that no second outcome fits the contracts.
+-- No second outcome fits.
 pub mod OneAnswer

@@ -1,2 +1,2 @@
--- No second outcome fits the contracts of this crate.
+-- No second outcome fits.
 pub mod OneAnswer
