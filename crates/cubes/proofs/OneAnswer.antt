@@ -5,15 +5,12 @@ use mathlib.Core.List.{List}
 use Prim.Native.Nat.{ℕ}
 use lib.ListN.{length}
 use Rattle.lists.specs.OneAnswer.{OneOutcome, OneOutcomeAmong, same, _&_, by-three}
-use Rattle.closed.specs.Faces.{faceOf}
+use Rattle.closed.proofs.OneAnswer.{by-face}
 use Rattle.cubes.specs.Cube.{placeOf}
 use Rattle.cubes.proofs as fn
 
 by-place : {a b : List ℕ} → length a ≡ 3 → length b ≡ 3 → placeOf a ≡ placeOf b → a ≡ b
 by-place la lb e = by-three 0 _ _ la lb (λ i. e i .0) (λ i. e i .1) (λ i. e i .2)
-
-by-face : {a b : List ℕ} → length a ≡ 3 → length b ≡ 3 → faceOf a ≡ faceOf b → a ≡ b
-by-face la lb e = by-three 0 _ _ la lb (cc) (cc) (cc)
 
 -- ---- cube.rt
 
