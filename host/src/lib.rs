@@ -29,19 +29,23 @@
 //! To build it, run `scripts/native-archive capi` in the repository's root, which proves the library and leaves its archive, then
 //! `cargo build --offline --release` in `host`; `scripts/host-tests` tests it, and `scripts/close-example` closes a scan.
 //!
-//! [`scan`] reads scans from PLY and text, [`mesh_file`] writes meshes as PLY and OBJ, and the program `hoardmagpie` is made
-//! of the two.
+//! [`scan`] reads scans from PLY and text, [`mesh_file`] writes meshes as PLY and OBJ, [`volume`] measures a closed mesh, and
+//! [`picture`] draws; the program `hoardmagpie` is made of these. None of them is proved.
 #![deny(missing_docs)]
 
 mod exported;
 pub mod lent;
 pub mod mesh_file;
+pub mod picture;
 mod refusal;
 pub mod scan;
 mod settings;
+mod volume;
+mod whole_file;
 
 pub use refusal::Refusal;
 pub use settings::{Settings, Trimming};
+pub use volume::{volume, NoVolume};
 
 use lent::{Answer, Scratch};
 use std::collections::HashMap;

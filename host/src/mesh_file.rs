@@ -1,8 +1,7 @@
 //! Writes a mesh: binary PLY, or OBJ.
-use crate::Mesh;
-use std::fs::{self, File, OpenOptions};
-use std::io::{self, BufWriter, Write};
-use std::path::{Path, PathBuf};
+use crate::{whole_file, Mesh};
+use std::io::{self, Write};
+use std::path::Path;
 
 /// The kinds of file that a mesh is written to.
 #[derive(Debug, Clone, Copy, PartialEq, Eq)]
@@ -64,43 +63,7 @@ fn write_obj(mesh: &Mesh, out: &mut dyn Write) -> io::Result<()> {
     Ok(())
 }
 
-/// A file under another name beside the one that is wanted. It is removed unless it is kept.
-struct Unfinished {
-    path: PathBuf,
-    kept: bool,
-}
-
-impl Unfinished {
-    fn create(wanted: &Path) -> io::Result<(Unfinished, File)> {
-        let mut name = std::ffi::OsString::from(".");
-        name.push(wanted.file_name().ok_or(io::ErrorKind::InvalidInput)?);
-        name.push(format!(".{}.part", std::process::id()));
-        let path = wanted.with_file_name(name);
-        let file = OpenOptions::new().write(true).create_new(true).open(&path)?;
-        Ok((Unfinished { path, kept: false }, file))
-    }
-
-    fn keep_as(mut self, wanted: &Path) -> io::Result<()> {
-        fs::rename(&self.path, wanted)?;
-        self.kept = true;
-        Ok(())
-    }
-}
-
-impl Drop for Unfinished {
-    fn drop(&mut self) {
-        if !self.kept {
-            // There is nothing better to do where even this fails.
-            let _ = fs::remove_file(&self.path);
-        }
-    }
-}
-
 /// Writes the mesh to a file: whole under its name, or not at all.
 pub fn write(mesh: &Mesh, format: Format, path: &Path) -> io::Result<()> {
-    let (unfinished, file) = Unfinished::create(path)?;
-    let mut out = BufWriter::new(file);
-    write_to(mesh, format, &mut out)?;
-    out.into_inner()?.sync_all()?;
-    unfinished.keep_as(path)
+    whole_file::write(path, |out| write_to(mesh, format, out))
 }

@@ -60,6 +60,11 @@ fn card_value(card: &str, name: &str) -> String {
     line[name.len()..].trim().to_string()
 }
 
+/// The number that a line of the card begins with.
+fn card_number(card: &str, name: &str) -> f64 {
+    card_value(card, name).split(' ').next().unwrap().parse().expect(card)
+}
+
 fn lines_of(path: &Path, start: &str) -> usize {
     fs::read_to_string(path).unwrap().lines().filter(|l| l.starts_with(start)).count()
 }
@@ -76,6 +81,8 @@ fn closes_a_scan_and_prints_the_job_card() {
     assert_eq!(card_value(&card, "vertices"), lines_of(&program.path("ball.obj"), "v ").to_string());
     assert_eq!(card_value(&card, "faces"), lines_of(&program.path("ball.obj"), "f ").to_string());
     assert_eq!(card_value(&card, "closed"), "yes");
+    assert!(card_value(&card, "volume").ends_with(" cubic units (computed by the host, not proved)"), "{card}");
+    assert!(!card.contains("mass") && !card.contains("picture"), "{card}");
     for name in ["level", "box", "time"] {
         assert!(!card_value(&card, name).is_empty());
     }
@@ -86,20 +93,64 @@ fn closes_a_scan_and_prints_the_job_card() {
 fn closes_the_example() {
     let program = Program::new("example");
     let scan = concat!(env!("CARGO_MANIFEST_DIR"), "/../examples/ring.ply");
-    let output = program.run(&["close", scan, "-o", "ring.ply", "--depth", "5"]);
+    let output = program.run(&["close", scan, "-o", "ring.ply", "--depth", "5", "--density", "7.1e-6"]);
     let card = String::from_utf8(output.stdout).unwrap();
     assert!(output.status.success(), "{card}");
     assert_eq!(card_value(&card, "points"), "4000 given, 4000 used");
     assert_eq!(card_value(&card, "closed"), "yes");
+    // Two thirds of a ring of radius 100 and tube 35, which the cuts may round off.
+    let (volume, mass) = (card_number(&card, "volume"), card_number(&card, "mass"));
+    assert!((volume / 1_612_035.0 - 1.0).abs() < 0.05, "{card}");
+    assert!((mass / (volume * 7.1e-6) - 1.0).abs() < 1e-6, "{card}");
+    assert!(
+        card_value(&card, "mass").ends_with(" at 0.0000071 a cubic unit (computed by the host, not proved)"),
+        "{card}"
+    );
 }
 
 #[test]
 fn a_trimmed_mesh_is_told_open() {
     let program = Program::new("trimmed");
     fs::write(program.path("ball.txt"), ball()).unwrap();
-    let output = program.run(&["close", "ball.txt", "-o", "ball.ply", "--depth", "4", "--trim", "2"]);
-    let closed = card_value(&String::from_utf8(output.stdout).unwrap(), "closed");
+    let words = ["close", "ball.txt", "-o", "ball.ply", "--depth", "4", "--trim", "2", "--density", "7.1"];
+    let card = String::from_utf8(program.run(&words).stdout).unwrap();
+    let closed = card_value(&card, "closed");
     assert!(closed.starts_with("no, ") && closed.ends_with(" open edges"), "{closed}");
+    for name in ["volume", "mass"] {
+        assert_eq!(card_value(&card, name), "left out: the mesh is not closed");
+    }
+}
+
+#[test]
+fn a_picture_is_drawn() {
+    let program = Program::new("picture");
+    fs::write(program.path("ball.txt"), ball()).unwrap();
+    let words = ["close", "ball.txt", "-o", "ball.ply", "--depth", "4", "--picture", "ball.PNG"];
+    let output = program.run(&words);
+    assert!(output.status.success() && output.stderr.is_empty(), "{output:?}");
+    assert_eq!(card_value(&String::from_utf8(output.stdout).unwrap(), "picture"), "ball.PNG");
+    assert_eq!(program.names(), ["ball.PNG", "ball.ply", "ball.txt"]);
+    let picture = fs::read(program.path("ball.PNG")).unwrap();
+    assert_eq!(picture[..8], *b"\x89PNG\r\n\x1a\n");
+    let side = |at: usize| u32::from_be_bytes(picture[at..at + 4].try_into().unwrap());
+    assert_eq!((side(16), side(20)), (1280, 440));
+    assert!((4_000..200_000).contains(&picture.len()), "{} bytes", picture.len());
+}
+
+/// The mesh is not lost with the picture.
+#[test]
+fn a_picture_that_cannot_be_written_leaves_the_mesh() {
+    let program = Program::new("unpainted");
+    fs::write(program.path("ball.txt"), ball()).unwrap();
+    fs::write(program.path("scan.png"), ball()).unwrap();
+    let close = |scan: &str, picture: &str| {
+        program.fails(1, &["close", scan, "-o", "m.ply", "--depth", "3", "--picture", picture])
+    };
+    assert_eq!(close("scan.png", "./scan.png"), "scan.png: the picture would replace the scan");
+    fs::write(program.path("m.ply"), "an older mesh").unwrap();
+    let line = close("ball.txt", "none/p.png");
+    assert!(line.starts_with("none/p.png: ") && line.ends_with("; the mesh is written"), "{line}");
+    assert!(fs::read(program.path("m.ply")).unwrap().starts_with(b"ply\n"));
 }
 
 #[test]
@@ -161,6 +212,12 @@ fn wrong_words_get_one_line() {
     usage(&["close", "a.ply", "b.ply", "-o", "c.ply"], "one scan at a time, and `b.ply` is a second");
     usage(&["close", "a.ply", "-o", "c.ply", "--depth", "seven"], "--depth cannot be `seven`");
     usage(&["close", "a.ply", "-o", "c.ply", "--colour", "red"], "there is no option --colour");
+    usage(&["close", "a.ply", "-o", "c.ply", "--picture", "c.jpg"], "c.jpg does not end in .png");
+    usage(&["close", "a.ply", "-o", "c.ply", "--density", "iron"], "--density cannot be `iron`");
+    for density in ["0", "-7.1", "NaN", "inf"] {
+        let line = format!("--density cannot be `{density}`: it is a finite number above zero");
+        usage(&["close", "a.ply", "-o", "c.ply", "--density", density], &line);
+    }
 }
 
 #[test]
@@ -170,4 +227,5 @@ fn help_shows_the_librarys_own_defaults() {
     let d = hoardmagpie::Settings::default();
     assert!(output.status.success());
     assert!(text.contains(&format!("3 to 8 (default {})", d.depth)), "{text}");
+    assert!(["--density X", "--picture FILE", "not proved"].iter().all(|words| text.contains(words)), "{text}");
 }

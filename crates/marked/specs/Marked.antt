@@ -1,21 +1,22 @@
 -- Document 01, "How answers are marked": its table of marked cases as one theorem, by computation, of the very definitions that the contracts cite.
 -- `fin s m (pos k)` is ±m * 2 ^ k and `fin s m (negsuc k)` is ±m * 2 ^ -(k + 1). Assumes nothing.
-use mathlib.Core.Path.{_≡_, refl}
-use mathlib.Core.Bool.{false}
+use mathlib.Core.Path.{_≡_, refl, sym, _∙_}
+use mathlib.Core.Bool.{Bool, true, false, true≢false}
 use mathlib.Core.List.{List, [], _∷_}
-use Prim.Native.Nat.{_+_, _^_}
+use Prim.Native.Nat.{ℕ, _+_, _^_}
+use native.Mathlib.Omega.{arith}
 use lib.IntN.{pos, negsuc}
 use lib.Ieee.{Float, inf, fin, binary32, binary64, ofBits, ofInt, toUnsigned, neg, add, sub, mul, div, lt, round}
 use Rattle.numbers.specs.Arithmetic.{rooted, narrowed, floored, ceiled, stepped}
-use Rattle.closed.specs.Lists.{member, cells, cells3}
-use Rattle.closed.specs.Faces.{face}
+use Rattle.closed.specs.Lists.{count, member, cells, cells3}
+use Rattle.closed.specs.Faces.{face, runs, Balanced}
 use Rattle.closed.specs.Numbering.{note, grow, dedup, indexOf, used, mesh}
 use Rattle.closed.specs.Rows.{rows, row, triangles, emitted}
-use Rattle.closed.specs.Grid.{node, edge, cellFaces, gridFaces}
+use Rattle.closed.specs.Grid.{node, edge, cellFaces, gridFaces, Outer}
 use Rattle.grid.specs.Grid.{placed, alongOf}
 use Rattle.grid.specs.declared.Lattice.{Lattice}
 use Rattle.blur.specs.Blur.{radiusOf}
-use Rattle.cells.specs.Extraction.{isBelow, belowAt, edgeFaces, vertexEdges, extractedFaces, extractedVertices, pointsOf, edgePoint, lowerValue, upperValue}
+use Rattle.cells.specs.Extraction.{isBelow, belowAt, below, edgeFaces, vertexEdges, extractedFaces, extractedVertices, pointsOf, edgePoint, lowerValue, upperValue}
 
 -- ---- the numbers that the cases name
 
@@ -53,6 +54,18 @@ pub marked :
     × (placed 8 nought one (fin false 7 (pos 0)) ≡ fin false 7 (pos 0))  -- P11: u = 7 with n = 8, of the place 7 at origin 0 and step 1,
     × (alongOf 8 nought one (fin false 7 (pos 0)) ≡ record { cell = 6; frac = one })  -- gives cell 6, fraction 1
     × (extractedVertices values corner nought ≡ half ∷ nought ∷ nought ∷ nought ∷ half ∷ nought ∷ nought ∷ nought ∷ half ∷ [])  -- P12: vertices (0.5,0,0), (0,0.5,0), (0,0,0.5),
-    × (extractedFaces values corner nought ≡ face 0 1 2 ∷ [])  -- face 0 1 2
-unfolding rooted narrowed round ofBits ofInt toUnsigned neg add sub mul div lt floored ceiled stepped radiusOf node edge placed alongOf extractedFaces extractedVertices vertexEdges pointsOf edgePoint lowerValue upperValue edgeFaces gridFaces cells3 cells cellFaces belowAt isBelow emitted triangles row rows mesh used dedup grow note member indexOf
-marked = (refl, refl, refl, refl, refl, refl, refl, refl, refl, refl, refl, refl, refl, refl, refl, refl)
+    × (extractedFaces values corner nought ≡ face 0 1 2 ∷ [])  -- face 0 1 2;
+    × (count (runs 0 1) (extractedFaces values corner nought) ≡ 1)  -- open: a face runs from 0 to 1,
+    × (count (runs 1 0) (extractedFaces values corner nought) ≡ 0)  -- none runs back,
+    × ¬ Balanced (extractedFaces values corner nought)
+    × (below values corner nought 0 0 0 ≡ true)  -- for its boundary is mixed: the outer node (0,0,0) is below,
+    × (below values corner nought 1 1 1 ≡ false)  -- (1,1,1) is not,
+    × ((s : Bool) → ¬ Outer 2 2 2 (below values corner nought) s)  -- so they are not all on one side
+unfolding rooted narrowed round ofBits ofInt toUnsigned neg add sub mul div lt floored ceiled stepped radiusOf node edge placed alongOf extractedFaces extractedVertices vertexEdges pointsOf edgePoint lowerValue upperValue edgeFaces gridFaces cells3 cells cellFaces belowAt isBelow emitted triangles row rows mesh used dedup grow note member indexOf count
+marked = (refl, refl, refl, refl, refl, refl, refl, refl, refl, refl, refl, refl, refl, refl, refl, refl, refl, refl, unbalanced, refl, refl, mixed)
+  where
+    unbalanced : ¬ Balanced (face 0 1 2 ∷ [])
+    unbalanced h = let z : _≡_ {A = ℕ} 1 0 = h 0 1 in omega arith
+
+    mixed : (s : Bool) → ¬ Outer 2 2 2 (below values corner nought) s
+    mixed s o = true≢false (o .low-x 0 0 (omega arith) (omega arith) ∙ sym (o .high-x 1 1 (omega arith) (omega arith)))

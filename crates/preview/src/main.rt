@@ -6,8 +6,10 @@ use settings::Answer;
 use settings::Settings;
 use sheet::Header;
 use sheet::Sheet;
-ghost use Prim.Native.Nat.{_<_};
+ghost use mathlib.Core.Path.{_≡_};
+ghost use Prim.Native.Nat.{_<_, _≤_};
 ghost use Rattle.sheet.specs.SheetRoom.{Roomy};
+ghost use Rattle.preview.specs.Preview.{hexDigit, inHex, Previewed};
 
 // A sheet is at most 24 + 24·256 = 6,168 bytes: one more is read, so that a longer one is seen to be.
 fn main() {
@@ -42,8 +44,10 @@ fn draw(bytes: &[u8], header: Header)
     mesh(&points[..n], settings);
 }
 
-// Room for any mesh of depth 3: 512 nodes, 343 cells of at most 5 faces, 1,344 edges of at most one vertex.
-fn mesh(points: &[f32], settings: Settings) {
+// Room for any mesh of depth 3: 512 nodes, 343 cells of at most 5 faces, 1,344 edges of at most one vertex. `tell` asks for the proof.
+fn mesh(points: &[f32], settings: Settings)
+    requires { ⌜ Previewed (now points) settings ⌝ }
+{
     let mut vertices = [0.0f32; 4032];
     let mut faces = [0u32; 5145];
     let mut s0 = [0.0f32; 512];
@@ -73,8 +77,10 @@ fn mesh(points: &[f32], settings: Settings) {
     tell(answer, &vertices, &faces);
 }
 
-// `refused N`, or `mesh V F`, V lines and F lines.
-fn tell(answer: Answer, vertices: &[f32], faces: &[u32]) {
+// `refused N`, or `mesh V F`, V lines and F lines. No slice is ever too short: 7 to 10 are not told.
+fn tell(answer: Answer, vertices: &[f32], faces: &[u32])
+    requires { ⌜ answer .number ≤ 6 ⌝ }
+{
     if answer.number != 0 {
         say(b"refused ");
         io::print_decimal(STDOUT_FILENO, answer.number as u64);
@@ -137,8 +143,10 @@ fn tell_hex(x: f32) {
     io::write_all(STDOUT_FILENO, &text);
 }
 
-// Eight upper-case digits.
-fn hex(n: u32) -> [u8; 8] {
+// Eight upper-case digits, most significant first.
+fn hex(n: u32) -> [u8; 8]
+    ensures { λ r. ⌜ r ≡ inHex 8 n ⌝ }
+{
     [
         digit(n / 0x1000_0000 % 16),
         digit(n / 0x100_0000 % 16),
@@ -153,6 +161,7 @@ fn hex(n: u32) -> [u8; 8] {
 
 fn digit(d: u32) -> u8
     requires { ⌜ d < 16 ⌝ }
+    ensures { λ r. ⌜ r ≡ hexDigit d ⌝ }
 {
     if d < 10 { 48 + d as u8 } else { 55 + d as u8 }
 }

@@ -1,15 +1,15 @@
--- What `sorted` is: the same numbers (`same-numbers`), none behind one that it stands before (`ascends`). For any order that is one; `distances-ascend` says so of `before` and distances, NaN and infinity among them.
--- No function's proof needs this: it says that the definition is right. Assumes nothing.
-use mathlib.Core.Path.{_≡_, refl, sym, ap, _∙_, subst}
-use mathlib.Core.Bool.{Bool, true, false, cond, not, _&&_, _||_, true≢false, false≢true}
+-- What `sorted` is, for any order that is one: the same numbers (`same-numbers`), none behind one that it stands before (`ascends`), so that its k-th
+-- element is the one of rank k (`rank`). By the insertion of one number. No function's proof needs this: it says that the definition is right. The
+-- spacing's two lists are in SpacingOrder. Assumes nothing.
+use mathlib.Core.Path.{_≡_, refl, _∙_}
+use mathlib.Core.Bool.{Bool, true, false, cond, not}
 use mathlib.Core.List.{List, [], _∷_, foldl}
-use Prim.Native.Nat.{ℕ, _+_, _*_}
+use Prim.Native.Nat.{ℕ, zero, suc, _+_, _≤_, _<_}
 use native.Mathlib.Nat.{zero-add}
 use native.Mathlib.Omega.{arith}
-use lib.Dec.{T}
-use lib.Ieee.{Float, nan, inf, fin, lt, le, isNan}
-use Rattle.numbers.specs.SumOfSquares.{Square, none, far, some, lt-le, not-below, le-not, le-trans}
-use Rattle.search.specs.Search.{before, inserted, sorted}
+use lib.ListN.{length, getD}
+use lib.Ieee.{Float}
+use Rattle.search.specs.Search.{inserted, sorted}
 
 -- ---- the same numbers: as many pass any test
 
@@ -25,7 +25,8 @@ swap : (test : Float → Bool) (b : Bool) (d a : Float) → one (test (cond b d 
 swap test true d a = refl
 swap test false d a = omega arith
 
-passing-inserted : (order : Float → Float → Bool) (test : Float → Bool) (l : List Float) (d : Float) → passing test (inserted order l d) ≡ one (test d) + passing test l
+passing-inserted : (order : Float → Float → Bool) (test : Float → Bool) (l : List Float) (d : Float)
+    → passing test (inserted order l d) ≡ one (test d) + passing test l
 passing-inserted order test [] d = refl
 passing-inserted order test (a ∷ l) d = omega (arith, swap test (order d a) d a, passing-inserted order test l (cond (order d a) a d))
 
@@ -69,7 +70,8 @@ module _ (P : Float → Type 0) (order : Float → Float → Bool) (is : Order P
   leads-inserted : (a : Float) (l : List Float) (d : Float) → Leads order a l → order d a ≡ false → Leads order a (inserted order l d)
   leads-inserted a [] d u h = (h, tt)
   leads-inserted a (x ∷ l) d u h =
-      (either (λ y. order y a ≡ false) (order d x) d x h (u .0), leads-inserted a l (cond (order d x) x d) (u .1) (either (λ y. order y a ≡ false) (order d x) x d (u .0) h))
+      let P : Float → Type 0 = λ y. order y a ≡ false in
+      (either P (order d x) d x h (u .0), leads-inserted a l (cond (order d x) x d) (u .1) (either P (order d x) x d (u .0) h))
 
   leads-onward : (d a : Float) (l : List Float) → P d → P a → Each P l → order a d ≡ false → Leads order a l → Leads order d l
   leads-onward d a [] p q r h u = tt
@@ -79,7 +81,8 @@ module _ (P : Float → Type 0) (order : Float → Float → Bool) (is : Order P
   ascends-inserted [] d p q s = (tt, tt)
   ascends-inserted (a ∷ l) d p q s = go (order d a) refl (ascends-inserted l a (p .1) (p .0) (s .1)) (ascends-inserted l d (p .1) q (s .1))
     where
-      go : (b : Bool) → order d a ≡ b → Ascends order (inserted order l a) → Ascends order (inserted order l d) → Leads order (cond b d a) (inserted order l (cond b a d)) × Ascends order (inserted order l (cond b a d))
+      go : (b : Bool) → order d a ≡ b → Ascends order (inserted order l a) → Ascends order (inserted order l d)
+          → Leads order (cond b d a) (inserted order l (cond b a d)) × Ascends order (inserted order l (cond b a d))
       go true e v w = let h = is .one-way a d (p .0) q e in (leads-inserted d l a (leads-onward d a l q (p .0) (p .1) h (s .0)) h, v)
       go false e v w = (leads-inserted a l d (s .0) e, w)
 
@@ -91,61 +94,73 @@ module _ (P : Float → Type 0) (order : Float → Float → Bool) (is : Order P
       go [] z p q s = s
       go (a ∷ l) z p q s = go l (inserted order z a) (p .1) (each-inserted z a q (p .0)) (ascends-inserted z a q (p .0) s)
 
--- ---- `before` is one, of distances
+-- ---- the element of rank k, counted from 0
 
--- what it says of two: the second is NaN, or both are numbers and the first is at most the second
-or-split : (x y : Bool) → x || y ≡ false → (x ≡ false) × (y ≡ false)
-or-split true y h = absurd (true≢false h)
-or-split false y h = (refl, h)
+-- d is it in l: at most k numbers stand before it, more than k do not stand behind it, and it is one of them: a test that it passes is passed in l
+pub record Ranked (order : Float → Float → Bool) (l : List Float) (k : ℕ) (d : Float) : Type 0 where
+  pub before-it : passing (λ x. order x d) l ≤ k
+  pub up-to-it : k < passing (λ x. not (order d x)) l
+  pub one-of-them : (test : Float → Bool) → test d ≡ true → 0 < passing test l
 
-last-nan : (a d : Float) → isNan d ≡ true → before d a ≡ false
-last-nan a d h = go d h
-  where
-    go : (d : Float) → isNan d ≡ true → before d a ≡ false
-    go nan h = unfold lt isNan in both (isNan a)
-      where
-        both : (b : Bool) → b && false ≡ false
-        both true = refl
-        both false = refl
-    go (inf s) h = absurd (false≢true (unfold isNan in h))
-    go (fin s m e) h = absurd (false≢true (unfold isNan in h))
+pub passing-all : (l : List Float) → passing (λ _. true) l ≡ length l
+passing-all [] = refl
+passing-all (a ∷ l) = omega (arith, passing-all l)
 
-number-first : (a d : Float) → isNan d ≡ false → before d a ≡ false → (isNan a ≡ false) × (lt d a ≡ false)
-number-first a d n h = let t = or-split (lt d a) (isNan a && not (isNan d)) h in (go (isNan a) (rw n at (t .1)), t .0)
-  where
-    go : (b : Bool) → b && true ≡ false → b ≡ false
-    go true e = absurd (true≢false e)
-    go false e = refl
+module _ (P : Float → Type 0) (order : Float → Float → Bool) (is : Order P order) where
+  itself : (a : Float) → P a → order a a ≡ false
+  itself a p = go (order a a) refl
+    where
+      go : (b : Bool) → order a a ≡ b → order a a ≡ false
+      go true e = is .one-way a a p p e
+      go false e = e
 
-by-less : (a d : Float) → isNan a ≡ false → lt d a ≡ false → before d a ≡ false
-by-less a d n h = rw (n, h)
+  none-leads : (a : Float) (l : List Float) → Leads order a l → passing (λ x. order x a) l ≡ 0
+  none-leads a [] u = refl
+  none-leads a (x ∷ l) u = rw (u .0) (omega (arith, none-leads a l (u .1)))
 
-before-order : Order Square before
-before-order =
-    record {
-      one-way = λ a d p q h. one-way a d p q h (isNan a) refl;
-      onward = λ a b c p q r h k. onward a b c p q r h k (isNan c) refl;
-    }
-  where
-    one-way : (a d : Float) → Square a → Square d → before d a ≡ true → (n : Bool) → isNan a ≡ n → before a d ≡ false
-    one-way a d p q h true n = last-nan d a n
-    one-way a d p q h false n = go (lt d a) refl
-      where
-        go : (b : Bool) → lt d a ≡ b → before a d ≡ false
-        go true e = by-less d a (left d a e) (le-not d a q p (lt-le d a e))
-          where
-            left : (d a : Float) → lt d a ≡ true → isNan d ≡ false
-            left nan a e = absurd (false≢true (unfold lt in e))
-            left (inf s) a e = unfold isNan in refl
-            left (fin s m x) a e = unfold isNan in refl
-        go false e = absurd (false≢true (sym (by-less a d n e) ∙ h))
+  led : (a : Float) (l : List Float) (k : ℕ) (z : Float) → Leads order a l → k < length l → order (getD l k z) a ≡ false
+  led a [] k z u h = absurd (omega arith)
+  led a (x ∷ l) zero z u h = u .0
+  led a (x ∷ l) (suc k) z u h = led a l k z (u .1) (omega arith)
 
-    onward : (a b c : Float) → Square a → Square b → Square c → before b a ≡ false → before c b ≡ false → (n : Bool) → isNan c ≡ n → before c a ≡ false
-    onward a b c p q r h k true n = last-nan a c n
-    onward a b c p q r h k false n =
-        let cb = number-first b c n k in
-        let ba = number-first a b (cb .0) h in
-        by-less a c (ba .0) (le-not a c p r (le-trans a b c p q r (not-below b a q p (cb .0) (ba .0) (ba .1)) (not-below c b r q n (cb .0) (cb .1))))
+  at-most-one : (b : Bool) → one b ≤ 1
+  at-most-one true = omega arith
+  at-most-one false = omega arith
 
-pub distances-ascend : (l : List Float) → Each Square l → Ascends before (sorted before l)
-distances-ascend l p = ascends Square before before-order l p
+  ascending-rank : (l : List Float) (k : ℕ) (z : Float) → Each P l → Ascends order l → k < length l → Ranked order l k (getD l k z)
+  ascending-rank [] k z p s h = absurd (omega arith)
+  ascending-rank (a ∷ l) zero z p s h =
+      let e = itself a (p .0) in
+      record {
+        before-it = rw e (omega (arith, none-leads a l (s .0)));
+        up-to-it = rw e (omega arith);
+        one-of-them = λ test t. rw t (omega arith);
+      }
+  ascending-rank (a ∷ l) (suc k) z p s h =
+      let t = ascending-rank l k z (p .1) (s .1) (omega arith) in
+      let e = led a l k z (s .0) (omega arith) in
+      record {
+        before-it = omega (arith, at-most-one (order a (getD l k z)), t .before-it);
+        up-to-it = rw e (omega (arith, t .up-to-it));
+        one-of-them = λ test u. omega (arith, t .one-of-them test u);
+      }
+
+  each-sorted : (l : List Float) → Each P l → Each P (sorted order l)
+  unfolding sorted
+  each-sorted l p = go l [] p tt
+    where
+      go : (l z : List Float) → Each P l → Each P z → Each P (foldl (inserted order) z l)
+      go [] z p q = q
+      go (a ∷ l) z p q = go l (inserted order z a) (p .1) (each-inserted P order is z a q (p .0))
+
+  pub rank : (l : List Float) (k : ℕ) (z : Float) → Each P l → k < length l → Ranked order l k (getD (sorted order l) k z)
+  rank l k z p h =
+      let same = same-numbers order in
+      let long : k < length (sorted order l) = omega (arith, same (λ _. true) l, passing-all l, passing-all (sorted order l)) in
+      let t = ascending-rank (sorted order l) k z (each-sorted l p) (ascends P order is l p) long in
+      let d = getD (sorted order l) k z in
+      record {
+        before-it = omega (arith, same (λ x. order x d) l, t .before-it);
+        up-to-it = omega (arith, same (λ x. not (order d x)) l, t .up-to-it);
+        one-of-them = λ test u. omega (arith, same test l, t .one-of-them test u);
+      }

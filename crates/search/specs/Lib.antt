@@ -3,4 +3,5 @@ pub mod Search
 pub mod Spacing
 pub mod Inner
 pub mod Ascending
+pub mod SpacingOrder
 pub mod Examples

@@ -1,9 +1,9 @@
 -- At most 256 points fit the array, and the sheet has them all.
 use Prim.Native.Nat.{_*_}
-use mathlib.Core.Path.{_≡_, sym, _∙_}
+use mathlib.Core.Path.{sym}
 use mathlib.Core.List.{_++_}
 use native.Mathlib.Omega.{arith}
-use lib.ListN.{length, take, drop, replicate, length-replicate, length-append}
+use lib.ListN.{drop, replicate, length-replicate, length-append}
 use lib.Seq.{length-take-le}
 use Rattle.lists.specs.Lists.{zero32}
 use borrow.Author.Needs.{needs}
@@ -57,7 +57,14 @@ slice-aggregate-mesh c =
     sym (length-take-le (6 * h .count) (last ++ rest) (omega (arith, kept, part, long)))
 
 mesh-requires : tie.Need-mesh-requires
-mesh-requires c κs = search needs
+mesh-requires c κs =
+    let asked = c .before .before .before .before .before .before .before .pre in
+    let long = slice-aggregate-mesh c in
+    record {
+      whole = omega (arith, long);
+      few = omega (arith, long, asked .few);
+      not-deep = asked .not-deep;
+    }
 
 returns : tie.Need-returns
 returns c = search needs

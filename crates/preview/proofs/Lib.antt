@@ -1,0 +1,3 @@
+-- The laws that the functions' proofs cite.
+pub mod AnyMesh
+pub mod Digits
