@@ -1,8 +1,8 @@
 -- Document 01's Arithmetic: the definitions, then what is proved of them.
 pub mod Constants
-pub mod ConstantValues
 pub mod Arithmetic
 pub mod Ieee754
+pub mod ConstantValues
 pub mod NanTest
 pub mod Opposite
 pub mod Whole

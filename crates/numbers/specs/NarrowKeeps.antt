@@ -1,7 +1,7 @@
 -- What narrowing keeps: a value that an f32 holds stays as it is (`narrowed-same`), only a NaN gives a NaN (`narrowed-nan`), the sign goes through
 -- (`narrowed-neg` of Symmetry), and the result is always a value of binary32 (`narrowed-fits`). Behind the first stands `round-same-value`: in either format,
 -- rounding a value of the format gives it back. Assumes nothing.
-use mathlib.Core.Path.{_≡_, refl, sym, ap, _∙_, subst}
+use mathlib.Core.Path.{_≡_, refl, ap, _∙_, subst}
 use mathlib.Core.Bool.{Bool, true, false, cond}
 use Prim.Native.Nat.{ℕ, zero, suc, _+_, _*_, _^_, _<_}
 use lib.IntN.{ℤ}
