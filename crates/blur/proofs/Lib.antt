@@ -4,3 +4,5 @@ pub mod Moved
 pub mod Terms
 pub mod Runs
 pub mod Axes
+-- No second outcome fits.
+pub mod OneAnswer

@@ -2,13 +2,13 @@
 use mathlib.Core.Path.{_≡_}
 use mathlib.Core.List.{List}
 use Prim.Native.Nat.{ℕ, _+_, _*_, _≤_}
-use lib.ListN.{length, take}
+use lib.ListN.{length}
 use lib.Ieee.{Float, binary32, add, mul}
-use Rattle.lists.specs.Lists.{at}
+use Rattle.lists.specs.Lists.{at, zero32, padded}
 use Rattle.blur.specs.declared.blur.Place.{Place}
 use Rattle.blur.specs.declared.blur.Place.the-variants.{At, Outside}
 use Rattle.blur.specs.declared.kernel.Kernel.{Kernel}
-use Rattle.blur.specs.Blur.{radiusOf, offsetCount, kernelOf, movedTo}
+use Rattle.blur.specs.Blur.{radiusOf, kernelOf, movedTo}
 
 -- x[k] + w * p[k]
 abbrev pub plusTimes : (w : Float) (x p : List Float) (k : ℕ) → Float
@@ -27,9 +27,9 @@ Reach first stride len room Outside = Unit {0}
 abbrev pub FirstOutside : (n radius t : ℕ) → Type 0
 FirstOutside n radius t = movedTo n radius 0 t ≡ Outside
 
--- a kernel's radius and weights are sigma's; it has room for more weights
+-- a kernel's radius and weights are sigma's; behind them its array is filled up with +0.0
 pub record KernelOf (sigma : Float) (k : Kernel) : Type 0 where
   pub reach : k .radius ≡ radiusOf sigma
   pub most : k .radius ≤ 18
   pub room : length (k .weights) ≡ 37
-  pub all : take (offsetCount (k .radius)) (k .weights) ≡ kernelOf sigma
+  pub all : k .weights ≡ padded zero32 37 (kernelOf sigma)

@@ -1,5 +1,6 @@
 -- Document 01's blur: the definitions, then what callers and proofs know of them.
 pub mod Blur
 pub mod Inner
+pub mod FirstWeights
 pub mod Radius
 pub mod Within

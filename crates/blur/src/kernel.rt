@@ -4,7 +4,7 @@ ghost use Prim.Native.Nat.{_≤_};
 ghost use Rattle.blur.specs.Blur.{sigmaOf, radiusOf, weightOf, reachOf};
 ghost use Rattle.blur.specs.Inner.{KernelOf};
 
-// How far the blur reaches, and its weights from minus the radius to the radius; those behind them are not used.
+// How far the blur reaches, and its weights from minus the radius to the radius; behind them the array holds +0.0, and is not read.
 pub struct Kernel {
     pub radius: usize,
     pub weights: [f32; 37],

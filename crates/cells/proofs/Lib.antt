@@ -1,2 +1,4 @@
 -- The laws that the functions' proofs cite.
 pub mod Points
+-- No second outcome fits.
+pub mod OneAnswer

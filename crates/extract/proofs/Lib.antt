@@ -2,3 +2,5 @@
 pub mod Edges
 pub mod Placing
 pub mod FirstPlace
+-- No second outcome fits.
+pub mod OneAnswer

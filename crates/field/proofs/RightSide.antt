@@ -16,6 +16,7 @@ use Rattle.points.specs.declared.point.Point.{Point}
 use Rattle.blur.specs.declared.kernel.Kernel.{Kernel}
 use Rattle.blur.specs.Blur.{sigmaOf, radiusOf, offsetCount, kernelOf}
 use Rattle.blur.specs.Inner.{KernelOf}
+use Rattle.blur.specs.FirstWeights.{first-weights}
 use Rattle.field.specs.Field.{rightSideAt, rightSideBy, rightSide}
 use Rattle.field.specs.Inner.{innerAt, rowAt}
 
@@ -60,6 +61,6 @@ unfolding rightSide
 by-kernel g ps spacing smoothing {sigma} {k} e made is =
     is
     ∙ ap (λ (m : ℕ). rightSideBy g ps (k .radius) (take m (k .weights))) (sub-zero (offsetCount (k .radius)))
-    ∙ ap (λ (l : List Float). rightSideBy g ps (k .radius) l) (made .all)
+    ∙ ap (λ (l : List Float). rightSideBy g ps (k .radius) l) (first-weights made)
     ∙ ap (λ (r : ℕ). rightSideBy g ps r (kernelOf sigma)) (made .reach)
     ∙ ap (λ (s : Float). rightSideBy g ps (radiusOf s) (kernelOf s)) e

@@ -1,2 +1,4 @@
 -- Laws that no one function owns.
 pub mod Counts
+-- No second outcome fits.
+pub mod OneAnswer

@@ -1,2 +1,4 @@
 -- What the proofs of several needs share.
 pub mod EveryOther
+-- No second outcome fits.
+pub mod OneAnswer

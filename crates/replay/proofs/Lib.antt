@@ -2,3 +2,5 @@
 pub mod Leading
 pub mod Located
 pub mod Cut
+-- No second outcome fits.
+pub mod OneAnswer

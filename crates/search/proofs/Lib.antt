@@ -3,3 +3,5 @@ pub mod NearestRoots
 pub mod SomeUsable
 pub mod Carry
 pub mod Gaps
+-- No second outcome fits.
+pub mod OneAnswer

@@ -5,3 +5,5 @@ pub mod Lines
 pub mod OneAxis
 pub mod Places
 pub mod WithinDistance
+-- No second outcome fits.
+pub mod OneAnswer

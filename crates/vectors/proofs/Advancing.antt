@@ -45,7 +45,7 @@ module _ (alpha : Float) (x₀ r₀ p ap' : List Float) where
       let size = length-tabulate (length r₀) (minusAt alpha r₀ ap') in
       let r= = filled-done (h .of-r) hr end in
       record {
-        of-x = filled-done (h .of-x) hx end;
+        of-x = cc (filled-done (h .of-x) hx end);
         of-r = r=;
         of-rr = summed-done g (h .of-s) (size ∙ hr) (omega arith) ∙ ap (λ (z : List Float). dotted g z z) (sym (of-size (minusAt alpha r₀ ap') r= (sym hr)));
       }

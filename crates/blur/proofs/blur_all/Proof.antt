@@ -30,7 +30,9 @@ unfolding blurred
 returns c =
     let s = c .before .before .before .before .before .before .before .before .before .before .before .before .before .before .before .before .before .before in
     let pass : (axis : ℕ) → List Float → List Float = λ axis. blurredAlong axis (s .args .g .nodes) (s .args .radius) (now (s .args .kernel)) in
-    c .before .before .blur-axis3 .ensures ∙ ap (pass 2) (c .before .before .before .before .before .before .before .blur-axis2 .ensures ∙ ap (pass 1) (c .before .before .before .before .before .before .before .before .before .before .before .before .blur-axis .ensures))
+    let second = c .before .before .before .before .before .before .before in
+    let left = second .blur-axis2 .ensures ∙ ap (pass 1) (second .before .before .before .before .before .blur-axis .ensures) in
+    (c .before .before .blur-axis3 .ensures ∙ ap (pass 2) left, left)
 
 pub blur-all-spec : {M : Type 1} → statement M
 blur-all-spec =

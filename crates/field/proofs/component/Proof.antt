@@ -24,7 +24,7 @@ returns : tie.Need-returns
 unfolding componentOf
 returns c =
     let s = c .before .before .before .before .before .before .before .before .before .before .before .before .before .before .before in
-    c .before .before .before .before .blur-all .ensures ∙ ap (blurred (s .args .g .nodes) (s .args .radius) (now (s .args .kernel))) (c .before .before .before .before .before .before .before .before .before .splat .ensures)
+    c .before .before .before .before .blur-all .ensures .0 ∙ ap (blurred (s .args .g .nodes) (s .args .radius) (now (s .args .kernel))) (c .before .before .before .before .before .before .before .before .before .splat .ensures)
 
 pub component-spec : {M : Type 1} → statement M
 component-spec =

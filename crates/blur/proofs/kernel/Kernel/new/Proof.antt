@@ -1,11 +1,13 @@
--- `blur::kernel::Kernel::new` meets its contract. The loop's invariant: the first t weights are those of the first t offsets.
+-- `blur::kernel::Kernel::new` meets its contract. The loop's invariant: the weights of the first t offsets, filled up with +0.0.
 -- Assumes nothing.
-use mathlib.Core.Path.{_≡_, ap, _∙_, subst}
+use mathlib.Core.Path.{_≡_, sym, ap, _∙_}
+use mathlib.Core.List.{[], _∷_, _++_}
 use Prim.Native.Nat.{ℕ, _≤_, _-_}
-use lib.ListN.{length, take, replicate, length-set, length-replicate}
+use lib.ListN.{length, length-set, length-replicate}
 use lib.Ieee.{Float}
-use Rattle.lists.specs.Lists.{tabulate, zero32}
-use Rattle.lists.specs.Prefix.{prefix-none, prefix-more}
+use Rattle.lists.specs.Lists.{tabulate, padded, zero32}
+use Rattle.lists.specs.Tabulate.{length-tabulate, tabulate-snoc}
+use Rattle.lists.specs.Padded.{padded-none, padded-more}
 use Rattle.blur.specs.Blur.{weightOf, reachOf, offsetCount, kernelOf}
 use borrow.Author.Needs.{needs}
 use native.Mathlib.Omega.{arith}
@@ -13,7 +15,7 @@ use Rattle.blur.proofs.kernel.Kernel.new.Statement.{statement}
 use Rattle.blur.proofs.kernel.Kernel.new.Tie as tie
 
 abbrev Inv-loop : tie.InvT-loop
-Inv-loop sigma radius weights₀ t₀ weights t = (take t weights ≡ tabulate t (λ k. weightOf sigma (reachOf radius k))) × (length weights ≡ 37) × (t ≤ offsetCount radius)
+Inv-loop sigma radius weights₀ t₀ weights t = (weights ≡ padded zero32 37 (tabulate t (λ k. weightOf sigma (reachOf radius k)))) × (length weights ≡ 37) × (t ≤ offsetCount radius)
 
 abbrev μ-loop : tie.MeasureT-loop
 μ-loop sigma radius weights₀ t₀ weights t = offsetCount radius - t
@@ -22,9 +24,9 @@ radius-of-requires : tie.Need-radius-of-requires Inv-loop μ-loop
 radius-of-requires c κs = search needs
 
 loop-holds : tie.Need-loop-holds Inv-loop μ-loop
+unfolding tabulate
 loop-holds c =
-    let w = replicate 37 zero32 in
-    (prefix-none _ w, length-replicate 37 zero32, omega arith)
+    (padded-none zero32 37, length-replicate 37 zero32, omega arith)
 
 add-loop : tie.Need-add-loop Inv-loop μ-loop
 add-loop c = omega arith
@@ -52,7 +54,12 @@ loop-again c =
     let q = c .before .before in
     let r = q .before .radius-of .result in
     let f : ℕ → Float = λ k. weightOf (q .before .before .args .sigma) (reachOf r k) in
-    (prefix-more f (q .loop .t) (q .loop .weights) (q .loop .inv .0) (omega arith) (c .weight .ensures), length-set (q .loop .weights) _ _ ∙ q .loop .inv .1, omega arith)
+    let t = q .loop .t in (
+      padded-more zero32 37 (tabulate t f) (c .weight .result) (q .loop .inv .0) (length-tabulate t f) (omega arith)
+          ∙ ap (padded zero32 37) (ap (λ (w : Float). tabulate t f ++ (w ∷ [])) (c .weight .ensures) ∙ sym (tabulate-snoc t f)),
+      length-set (q .loop .weights) _ _ ∙ q .loop .inv .1,
+      omega arith,
+    )
 
 returns : tie.Need-returns Inv-loop μ-loop
 unfolding kernelOf
@@ -67,8 +74,9 @@ returns c =
       most = omega arith;
       room = q .loop .inv .1;
       all =
-          subst (λ (m : ℕ). take m (q .loop .weights) ≡ tabulate m (λ k. weightOf s (reachOf r k))) all (q .loop .inv .0)
-          ∙ ap (λ (m : ℕ). tabulate (offsetCount m) (λ k. weightOf s (reachOf m k))) e;
+          q .loop .inv .0
+          ∙ ap (λ (m : ℕ). padded zero32 37 (tabulate m (λ k. weightOf s (reachOf r k)))) all
+          ∙ ap (λ (m : ℕ). padded zero32 37 (tabulate (offsetCount m) (λ k. weightOf s (reachOf m k)))) e;
     }
 
 pub new-spec : {M : Type 1} → statement M
