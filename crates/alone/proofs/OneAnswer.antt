@@ -1,6 +1,6 @@
 -- No second outcome fits: each public function, in the order of the source. Answer and slices are said by equations. Assumes nothing.
 use mathlib.Core.Path.{refl}
-use Rattle.ending.specs.OneOutcome.{OneOutcome, same, _&_}
+use Rattle.lists.specs.OneAnswer.{OneOutcome, same, _&_}
 use Rattle.alone.proofs as fn
 
 pub enough : OneOutcome fn.enough.ended fn.enough.Reads.Post

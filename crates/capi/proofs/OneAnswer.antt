@@ -5,7 +5,7 @@ use mathlib.Core.List.{List}
 use Prim.Native.Nat.{ℕ}
 use lib.Ieee.{Float}
 use Rattle.settings.specs.declared.Answer.{Answer}
-use Rattle.ending.specs.OneOutcome.{OneOutcome, same, _&_}
+use Rattle.lists.specs.OneAnswer.{OneOutcome, same, _&_}
 use Rattle.capi.specs.Flat.{countsOf, valuesOf, AnswerTold}
 use Rattle.capi.proofs as fn
 

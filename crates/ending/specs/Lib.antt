@@ -1,4 +1,3 @@
--- The slices that a call is lent, what its ending leaves in them, and what it is that no second outcome fits.
+-- The slices that a call is lent, and what its ending leaves in them.
 pub mod Slices
 pub mod Ending
-pub mod OneOutcome

@@ -1,8 +1,7 @@
 -- No second outcome fits: each public function, in the order of the source. Results and slices are said by equations, a mesh's V by three times it. Assumes
 -- nothing.
-use mathlib.Core.Path.{_≡_, refl, sym}
-use native.Mathlib.Omega.{arith}
-use Rattle.ending.specs.OneOutcome.{OneOutcome, same, _&_}
+use mathlib.Core.Path.{refl, sym}
+use Rattle.lists.specs.OneAnswer.{OneOutcome, same, _&_, by-thrice}
 use Rattle.scan.proofs as fn
 
 pub grid-for : OneOutcome fn.grid_for.ended fn.grid_for.Reads.Post
@@ -48,9 +47,11 @@ prepare κs args o o′ p q =
 
 pub draw : OneOutcome fn.draw.ended fn.draw.Reads.Post
 draw κs args o o′ p q =
-    let v : o .0 .vertices ≡ o′ .0 .vertices = omega (arith, p .vertex-count, q .vertex-count) in
-    let f : o .0 .faces ≡ o′ .0 .faces = same (sym (p .face-count)) (sym (q .face-count)) in
-    (λ i. record { vertices = v i; faces = f i })
+    (λ i.
+    record {
+      vertices = by-thrice (p .vertex-count) (q .vertex-count) i;
+      faces = same (sym (p .face-count)) (sym (q .face-count)) i;
+    })
     & refl
     & refl
     & refl
