@@ -13,7 +13,7 @@ use Rattle.grid.specs.Grid.{Counts}
 use Rattle.grid.specs.declared.Lattice.{Lattice}
 use Rattle.cells.specs.Extraction.{countY, countZ, edgeFaces, vertexEdges, extractedFaces, extractedVertices}
 use Rattle.cells.specs.CellWords.{Inner}
-use Rattle.numbering.specs.declared.Totals.{Totals}
+use Rattle.meshes.specs.declared.MeshSize.{MeshSize}
 use Rattle.numbering.specs.FirstPass.{Numberable, edgeTable}
 
 -- ---- writing: the coordinates, and how many vertices they are of; the faces
@@ -34,13 +34,13 @@ abbrev pub vertexIn : (table : List ℕ) (e : ℕ) → ℕ
 vertexIn table e = getD table e 0 - 1
 
 -- the faces fs were written, from `had` to `got`, with vs′ and os′ for the slices vs and os
-pub record Written (table : List ℕ) (point : ℕ → List Float) (vs vs′ : List Float) (os os′ : List ℕ) (had got : Totals) (fs : List Face) : Type 0 where
+pub record Written (table : List ℕ) (point : ℕ → List Float) (vs vs′ : List Float) (os os′ : List ℕ) (had got : MeshSize) (fs : List Face) : Type 0 where
   pub placed : _≡_ {A = Places} (vs′, got .vertices) (placeAll table point (vs, had .vertices) (corners fs))
   pub written : os′ ≡ sets os (3 * had .faces) (map (vertexIn table) (corners fs))
   pub counted : got .faces ≡ had .faces + length fs
 
 -- there is room for them
-pub record RoomFor (table : List ℕ) (point : ℕ → List Float) (vs : List Float) (os : List ℕ) (had : Totals) (fs : List Face) : Type 0 where
+pub record RoomFor (table : List ℕ) (point : ℕ → List Float) (vs : List Float) (os : List ℕ) (had : MeshSize) (fs : List Face) : Type 0 where
   pub vertices : 3 * placeAll table point (vs, had .vertices) (corners fs) .1 ≤ length vs
   pub faces : 3 * (had .faces + length fs) ≤ length os
 

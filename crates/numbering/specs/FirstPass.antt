@@ -13,7 +13,7 @@ use Rattle.closed.specs.Numbering.{slot}
 use Rattle.grid.specs.Grid.{Counts}
 use Rattle.grid.specs.declared.Lattice.{Lattice}
 use Rattle.cells.specs.Extraction.{countX, countY, countZ, edgeFaces, vertexEdges}
-use Rattle.numbering.specs.declared.Totals.{Totals}
+use Rattle.meshes.specs.declared.MeshSize.{MeshSize}
 
 -- ---- numbering: the table, and how many edges have a number
 
@@ -29,27 +29,27 @@ markAll s [] = s
 markAll s (e ∷ es) = markAll (mark1 s e) es
 
 -- what is known when the cells up to node n are passed: at most fifteen of each a cell
-pub record Few (t : Totals) (n : ℕ) : Type 0 where
+pub record Few (t : MeshSize) (n : ℕ) : Type 0 where
   pub vertices : t .vertices ≤ 15 * n
   pub faces : t .faces ≤ 15 * n
 
-abbrev pub none : Totals
+abbrev pub none : MeshSize
 none = record { vertices = 0; faces = 0 }
 
 -- the faces fs were gone through, from `had` to `got`, with the table t' for t
-pub record Numbered (t t' : List ℕ) (had got : Totals) (fs : List Face) : Type 0 where
+pub record Numbered (t t' : List ℕ) (had got : MeshSize) (fs : List Face) : Type 0 where
   pub marks : _≡_ {A = Marks} (t', got .vertices) (markAll (t, had .vertices) (corners fs))
   pub counted : got .faces ≡ had .faces + length fs
 
 -- what a line from node n asks: cells in the values, edges in the table, few numbers so far
-pub record Line (values : List Float) (table : List ℕ) (ny nz n : ℕ) (had : Totals) : Type 0 where
+pub record Line (values : List Float) (table : List ℕ) (ny nz n : ℕ) (had : MeshSize) : Type 0 where
   pub two : 2 ≤ nz
   pub inside : n + ny * nz + nz + nz ≤ length values
   pub edges : length table ≡ 3 * length values
   pub most : length values ≤ 16777216
   pub few : Few had n
 
-pub record Plane (values : List Float) (table : List ℕ) (ny nz n : ℕ) (had : Totals) : Type 0 where
+pub record Plane (values : List Float) (table : List ℕ) (ny nz n : ℕ) (had : MeshSize) : Type 0 where
   pub two : 2 ≤ nz
   pub rows : 2 ≤ ny
   pub inside : n + ny * nz + ny * nz ≤ length values
@@ -78,7 +78,7 @@ abbrev pub edgeTable : (values : List Float) (l : Lattice) (iso : Float) → Lis
 edgeTable values l iso = tabulate (3 * (countX l * countY l * countZ l)) (slot (vertexEdges values l iso))
 
 -- the table is numbered at first use; V and F are the lengths of the definitions
-pub record Counted (values : List Float) (table : List ℕ) (l : Lattice) (iso : Float) (r : Totals) : Type 0 where
+pub record Counted (values : List Float) (table : List ℕ) (l : Lattice) (iso : Float) (r : MeshSize) : Type 0 where
   pub numbers : table ≡ edgeTable values l iso
   pub vertices : r .vertices ≡ length (vertexEdges values l iso)
   pub faces : r .faces ≡ length (edgeFaces values l iso)

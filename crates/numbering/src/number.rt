@@ -7,7 +7,6 @@ ghost use Rattle.closed.specs.Faces.{faceOf, mapFace, corners};
 ghost use Rattle.closed.specs.Rows.{flatTable, emitted};
 ghost use Rattle.cells.specs.CellWords.{rowFaces, caseAt, lineFaces, planeFaces, blockFaces, edgeOffsets, EdgesIn, CubeFace};
 ghost use Rattle.numbering.specs.FirstPass.{mark1, markAll, Few, none, Numbered, Line, Plane, Block, Numberable, Counted};
-use crate::Totals;
 use cells::cell_edge;
 use cells::edge_offsets;
 use cells::is_plain;
@@ -15,6 +14,7 @@ use cells::side_of;
 use grid::Edge;
 use grid::Lattice;
 use grid::Node;
+use meshes::MeshSize;
 
 // An edge gets the next number unless it has one: the table holds one more than the vertex, 0 where there is none. The answer is how many have one.
 fn mark(table: &mut [u32], edge: Edge, count: usize) -> usize
@@ -73,10 +73,10 @@ fn number_cell(
     table: &mut [u32],
     first: Edge,
     case: usize,
-    had: Totals,
+    had: MeshSize,
     offsets: &[usize; 12],
     triangles: &[i8; 4096],
-) -> Totals
+) -> MeshSize
     requires { ⌜ EdgesIn (now offsets) (first .0) (length (now table)) × (case < 256) × (had .vertices ≤ 4294960000) × (had .faces ≤ 4294960000) × (now triangles ≡ flatTable) ⌝ }
     ensures { λ r. ⌜ Numbered (now (table .entry)) (now (table .exit)) had r (rowFaces (now (offsets .entry)) (first .0) case) ⌝ }
 {
@@ -88,7 +88,7 @@ fn number_cell(
     }
     let faces = cubes::row_faces(triangles, case);
     let vertices = mark_row(table, first, case, faces, had.vertices, offsets, triangles);
-    Totals {
+    MeshSize {
         vertices,
         faces: had.faces + faces,
     }
@@ -102,10 +102,10 @@ fn number_cells(
     nz: usize,
     from: Node,
     iso: f32,
-    had: Totals,
+    had: MeshSize,
     offsets: &[usize; 12],
     triangles: &[i8; 4096],
-) -> Totals
+) -> MeshSize
     requires { ⌜ Line (now values) (now table) ny nz (from .0) had × (now offsets ≡ edgeOffsets ny nz) × (now triangles ≡ flatTable) ⌝ }
     ensures { λ r. ⌜ Numbered (now (table .entry)) (now (table .exit)) had r (lineFaces (now (values .entry)) ny nz iso (from .0) (nz - 1)) × Few r (from .0 + nz) ⌝ }
 {
@@ -120,7 +120,7 @@ fn number_cells(
             table,
             first,
             near + 16 * far,
-            Totals { vertices, faces },
+            MeshSize { vertices, faces },
             offsets,
             triangles,
         );
@@ -129,7 +129,7 @@ fn number_cells(
         near = far;
         k += 1;
     }
-    Totals { vertices, faces }
+    MeshSize { vertices, faces }
 }
 
 // The same. A plain line has no face, and is passed over.
@@ -140,10 +140,10 @@ fn number_line(
     nz: usize,
     from: Node,
     iso: f32,
-    had: Totals,
+    had: MeshSize,
     offsets: &[usize; 12],
     triangles: &[i8; 4096],
-) -> Totals
+) -> MeshSize
     requires { ⌜ Line (now values) (now table) ny nz (from .0) had × (now offsets ≡ edgeOffsets ny nz) × (now triangles ≡ flatTable) ⌝ }
     ensures { λ r. ⌜ Numbered (now (table .entry)) (now (table .exit)) had r (lineFaces (now (values .entry)) ny nz iso (from .0) (nz - 1)) × Few r (from .0 + nz) ⌝ }
 {
@@ -161,10 +161,10 @@ fn number_plane(
     nz: usize,
     from: Node,
     iso: f32,
-    had: Totals,
+    had: MeshSize,
     offsets: &[usize; 12],
     triangles: &[i8; 4096],
-) -> Totals
+) -> MeshSize
     requires { ⌜ Plane (now values) (now table) ny nz (from .0) had × (now offsets ≡ edgeOffsets ny nz) × (now triangles ≡ flatTable) ⌝ }
     ensures { λ r. ⌜ Numbered (now (table .entry)) (now (table .exit)) had r (planeFaces (now (values .entry)) ny nz iso (from .0) (ny - 1)) × Few r (from .0 + ny * nz) ⌝ }
 {
@@ -179,7 +179,7 @@ fn number_plane(
             nz,
             Node::of(from.0 + j * nz),
             iso,
-            Totals { vertices, faces },
+            MeshSize { vertices, faces },
             offsets,
             triangles,
         );
@@ -187,7 +187,7 @@ fn number_plane(
         faces = got.faces;
         j += 1;
     }
-    Totals { vertices, faces }
+    MeshSize { vertices, faces }
 }
 
 // The planes, along the first axis.
@@ -200,7 +200,7 @@ fn number_planes(
     iso: f32,
     offsets: &[usize; 12],
     triangles: &[i8; 4096],
-) -> Totals
+) -> MeshSize
     requires { ⌜ Block (now values) (now table) nx ny nz × (now offsets ≡ edgeOffsets ny nz) × (now triangles ≡ flatTable) ⌝ }
     ensures { λ r. ⌜ Numbered (now (table .entry)) (now (table .exit)) none r (blockFaces (now (values .entry)) ny nz iso (nx - 1)) ⌝ }
 {
@@ -215,7 +215,7 @@ fn number_planes(
             nz,
             Node::of(i * (ny * nz)),
             iso,
-            Totals { vertices, faces },
+            MeshSize { vertices, faces },
             offsets,
             triangles,
         );
@@ -223,11 +223,11 @@ fn number_planes(
         faces = got.faces;
         i += 1;
     }
-    Totals { vertices, faces }
+    MeshSize { vertices, faces }
 }
 
 // "A vertex is numbered at first use": the table of 3N elements, which may hold anything, is cleared and filled; the answer is V and F.
-pub fn number_edges(values: &[f32], lattice: Lattice, iso: f32, table: &mut [u32]) -> Totals
+pub fn number_edges(values: &[f32], lattice: Lattice, iso: f32, table: &mut [u32]) -> MeshSize
     requires { ⌜ Numberable (now values) (now table) lattice ⌝ }
     ensures { λ r. ⌜ Counted (now (values .entry)) (now (table .exit)) lattice iso r ⌝ }
 {

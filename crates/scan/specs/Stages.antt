@@ -17,10 +17,10 @@ use Rattle.settings.specs.declared.Answer.{Answer}
 use Rattle.settings.specs.Answers.{answerUnder}
 use Rattle.settings.specs.Refusals.{meshVerdict}
 use Rattle.numbering.specs.FirstPass.{edgeTable}
-use Rattle.orientation.specs.Orientation.{vertexCount}
-use Rattle.surface.specs.Surface.{boxOf}
+use Rattle.meshes.specs.FlatMesh.{vertexCount}
+use Rattle.meshes.specs.BoxOfVertices.{boxOf}
 use Rattle.scan.specs.declared.Found.{Found}
-use Rattle.trim.specs.declared.MeshSize.{MeshSize}
+use Rattle.meshes.specs.declared.MeshSize.{MeshSize}
 use Rattle.scan.specs.Reconstruction.{gridFor, latticeFor, fieldFor, levelFor, vertexTotal, faceTotal, keptVertices, keptFaces}
 
 -- the grid over a box, and that its side is one of 2^1 .. 2^8 nodes

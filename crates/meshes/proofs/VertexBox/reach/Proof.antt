@@ -1,8 +1,8 @@
--- `surface::VertexBox::reach` meets its contract, a coordinate at a time. Assumes nothing.
-use Rattle.surface.specs.Surface.{reachedBy}
+-- `meshes::VertexBox::reach` meets its contract, a coordinate at a time. Assumes nothing.
+use Rattle.meshes.specs.BoxOfVertices.{reachedBy}
 use borrow.Author.Needs.{needs}
-use Rattle.surface.proofs.reach.VertexBox.reach.Statement.{statement}
-use Rattle.surface.proofs.reach.VertexBox.reach.Tie as tie
+use Rattle.meshes.proofs.VertexBox.reach.Statement.{statement}
+use Rattle.meshes.proofs.VertexBox.reach.Tie as tie
 
 element-copy-out-lesser : tie.Need-element-copy-out-lesser
 element-copy-out-lesser c = search needs

@@ -1,9 +1,9 @@
--- `orientation::triangle::vertex_at` meets its contract: a vertex's coordinates start at three times its number. Assumes nothing.
+-- `meshes::vertex_at` meets its contract: a vertex's coordinates start at three times its number. Assumes nothing.
 use native.Mathlib.Nat.{add-zero}
 use native.Mathlib.Omega.{arith}
 use borrow.Author.Needs.{needs}
-use Rattle.orientation.proofs.triangle.vertex_at.Statement.{statement}
-use Rattle.orientation.proofs.triangle.vertex_at.Tie as tie
+use Rattle.meshes.proofs.vertices.vertex_at.Statement.{statement}
+use Rattle.meshes.proofs.vertices.vertex_at.Tie as tie
 
 number-requires : tie.Need-number-requires
 number-requires c κs = search needs

@@ -4,7 +4,7 @@ use mathlib.Core.Bool.{true, false}
 use mathlib.Core.List.{[], _∷_}
 use lib.IntN.{pos}
 use lib.Ieee.{Float, nan, fin, ofBits, lt}
-use Rattle.surface.specs.Surface.{reachedBy, boxTo, boxOf}
+use Rattle.meshes.specs.BoxOfVertices.{reachedBy, boxTo, boxOf}
 
 -- +0, -0 and 1
 abbrev O : Float

@@ -1,4 +1,4 @@
--- `surface::bounds` meets its contract: before vertex v the box is that of the vertices 0 to v - 1. Assumes nothing.
+-- `meshes::bounds` meets its contract: before vertex v the box is that of the vertices 0 to v - 1. Assumes nothing.
 use mathlib.Core.Path.{_≡_, refl, sym, ap, _∙_}
 use mathlib.Core.List.{List, [], _∷_}
 use Prim.Native.Nat.{ℕ, suc, _+_, _-_, _*_, _≤_, _<_}
@@ -7,12 +7,12 @@ use native.Mathlib.Omega.{arith}
 use lib.Ieee.{Float}
 use Rattle.lists.specs.Lists.{at}
 use denote.Ref.{now}
-use Rattle.surface.specs.declared.reach.VertexBox.{VertexBox}
-use Rattle.orientation.specs.Orientation.{vertexCount, vertexAt}
-use Rattle.surface.specs.Surface.{reachedBy, boxTo, boxFor, boxOf}
+use Rattle.meshes.specs.declared.VertexBox.{VertexBox}
+use Rattle.meshes.specs.FlatMesh.{vertexCount, vertexAt}
+use Rattle.meshes.specs.BoxOfVertices.{reachedBy, boxTo, boxFor, boxOf}
 use borrow.Author.Needs.{needs}
-use Rattle.surface.proofs.reach.bounds.Statement.{statement}
-use Rattle.surface.proofs.reach.bounds.Tie as tie
+use Rattle.meshes.proofs.vertex_box.bounds.Statement.{statement}
+use Rattle.meshes.proofs.vertex_box.bounds.Tie as tie
 
 -- ---- one vertex more, and all
 

@@ -1,13 +1,8 @@
 // The box of the vertices, which is part of the answer. The Rust has none.
 ghost use mathlib.Core.Path.{_≡_};
-ghost use Rattle.surface.specs.Surface.{lower, higher, reachedBy, boxOf};
-use orientation::triple_at;
-
-// The low and the high corner.
-pub struct VertexBox {
-    pub low: [f32; 3],
-    pub high: [f32; 3],
-}
+ghost use Rattle.meshes.specs.BoxOfVertices.{lower, higher, reachedBy, boxOf};
+use crate::VertexBox;
+use crate::vertices::triple_at;
 
 // x where it is strictly smaller.
 fn lesser(m: f32, x: f32) -> f32

@@ -1,9 +1,9 @@
--- `orientation::write_face` meets its contract: the three stores are those of the definition. Assumes nothing.
+-- `meshes::write_face` meets its contract: the three stores are those of the definition. Assumes nothing.
 use native.Mathlib.Omega.{arith}
 use lib.ListN.{length-set}
 use borrow.Author.Needs.{needs}
-use Rattle.orientation.proofs.triangle.write_face.Statement.{statement}
-use Rattle.orientation.proofs.triangle.write_face.Tie as tie
+use Rattle.meshes.proofs.faces.write_face.Statement.{statement}
+use Rattle.meshes.proofs.faces.write_face.Tie as tie
 
 mul-k : tie.Need-mul-k
 mul-k c = search needs

@@ -10,7 +10,7 @@ use Rattle.lists.specs.Lists.{tabulate}
 use Rattle.lists.specs.Fill.{Filled, filled-none, filled-more, filled-now, filled-done}
 use Rattle.closed.specs.Faces.{Face, face, faces, faceOf, corners}
 use Rattle.closed.specs.Turning.{face-at, corners-faces, length-faces}
-use Rattle.orientation.specs.Orientation.{vertexCount, faceCount, Meshed, cornersAt, putFace, Corners}
+use Rattle.meshes.specs.FlatMesh.{vertexCount, faceCount, Meshed, cornersAt, putFace, Corners}
 
 -- a face of no list
 abbrev pub noFace : Face

@@ -1,7 +1,7 @@
--- `orientation::triangle::triple_at` meets its contract: the three places lie in the slice. Assumes nothing.
+-- `meshes::triple_at` meets its contract: the three places lie in the slice. Assumes nothing.
 use borrow.Author.Needs.{needs}
-use Rattle.orientation.proofs.triangle.triple_at.Statement.{statement}
-use Rattle.orientation.proofs.triangle.triple_at.Tie as tie
+use Rattle.meshes.proofs.vertices.triple_at.Statement.{statement}
+use Rattle.meshes.proofs.vertices.triple_at.Tie as tie
 
 mul-t3 : tie.Need-mul-t3
 mul-t3 c = search needs

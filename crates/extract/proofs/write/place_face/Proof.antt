@@ -5,15 +5,15 @@ use mathlib.Core.List.{List, [], _∷_, map}
 use Prim.Native.Nat.{ℕ, _+_, _*_, _^_, _<_, _≤_}
 use native.Mathlib.Omega.{arith}
 use lib.Ieee.{Float}
-use lib.ListN.{length, getD, set, length-set}
+use lib.ListN.{length, getD}
 use lib.Seq.{sets}
 use Rattle.cells.specs.Extraction.{edgePoint}
 use Rattle.cells.specs.CellWords.{Inner}
 use Rattle.extract.specs.SecondPass.{Places, placeAll, vertexIn}
 use Rattle.extract.proofs.Placing.{place-three, Fits, fits-first, fits-rest, three-stores, three-same}
 use borrow.Author.Needs.{needs}
-use Rattle.extract.proofs.write.write_face.Statement.{statement}
-use Rattle.extract.proofs.write.write_face.Tie as tie
+use Rattle.extract.proofs.write.place_face.Statement.{statement}
+use Rattle.extract.proofs.write.place_face.Tie as tie
 
 -- ---- the places: each seen from one further on
 
@@ -29,18 +29,25 @@ one c = c .before .before .before .before
 abbrev two : tie.After-place3 → tie.After-place2
 two c = c .before .before .before .before
 
--- the three edges, seen from behind the three vertices, and from behind each of the three numbers
+-- the three edges, seen from behind the three places, and from behind each of the three vertices
 abbrev edges : tie.After-place3 → tie.After-cell-edge3
 edges c = found (one (two c))
 
-abbrev edges-1 : tie.After-number → tie.After-cell-edge3
-edges-1 c = edges (c .before .before .before .before)
+abbrev edges-1 : tie.After-vertex-of → tie.After-cell-edge3
+edges-1 c = edges (c .before .before .before)
 
-abbrev edges-2 : tie.After-number2 → tie.After-cell-edge3
-edges-2 c = edges-1 (c .before .before)
+abbrev edges-2 : tie.After-vertex-of2 → tie.After-cell-edge3
+edges-2 c = edges-1 (c .before)
 
-abbrev edges-3 : tie.After-number3 → tie.After-cell-edge3
-edges-3 c = edges-2 (c .before .before)
+abbrev edges-3 : tie.After-vertex-of3 → tie.After-cell-edge3
+edges-3 c = edges-2 (c .before)
+
+-- the three vertices, seen from behind their numbers; and these, seen from the end
+abbrev known : tie.After-number3 → tie.After-vertex-of3
+known c = c .before .before .before .before
+
+abbrev numbered : tie.After-slice-known6 → tie.After-number3
+numbered c = c .before .before .before
 
 -- ---- what is known there
 
@@ -135,63 +142,26 @@ place-requires-3 c κs =
 vertex-of-requires : tie.Need-vertex-of-requires
 vertex-of-requires c κs = edge-a (edges (c .before .before)) .1
 
-number-requires : tie.Need-number-requires
-number-requires c κs = search needs
-
-mul-faces : tie.Need-mul-faces
-mul-faces c = omega (arith, free (entry (edges-1 c)))
-
-mul-faces-2 : tie.Need-mul-faces-2
-mul-faces-2 c = omega (arith, free (entry (edges-1 c)))
-
-slice-write-faces : tie.Need-slice-write-faces
-slice-write-faces c = omega (arith, free (entry (edges-1 c)))
-
 vertex-of-requires-2 : tie.Need-vertex-of-requires-2
 vertex-of-requires-2 c κs = edge-b (edges-1 c) .1
-
-number-requires-2 : tie.Need-number-requires-2
-number-requires-2 c κs = search needs
-
-mul-faces-3 : tie.Need-mul-faces-3
-mul-faces-3 c = omega (arith, free (entry (edges-2 c)))
-
-add-faces : tie.Need-add-faces
-add-faces c = omega (arith, free (entry (edges-2 c)))
-
-mul-faces-4 : tie.Need-mul-faces-4
-mul-faces-4 c = omega (arith, free (entry (edges-2 c)))
-
--- a store keeps the slice's length
-slice-write-faces-2 : tie.Need-slice-write-faces-2
-slice-write-faces-2 c =
-    let a = entry (edges-2 c) .args in omega (arith, free (entry (edges-2 c)), length-set (a .faces .now) (3 * a .had .faces) (c .before .before .number .result))
 
 vertex-of-requires-3 : tie.Need-vertex-of-requires-3
 vertex-of-requires-3 c κs = edge-c (edges-2 c) .1
 
+number-requires : tie.Need-number-requires
+number-requires c κs = search needs
+
+number-requires-2 : tie.Need-number-requires-2
+number-requires-2 c κs = search needs
+
 number-requires-3 : tie.Need-number-requires-3
 number-requires-3 c κs = search needs
 
-mul-faces-5 : tie.Need-mul-faces-5
-mul-faces-5 c = omega (arith, free (entry (edges-3 c)))
+write-face-requires : tie.Need-write-face-requires
+write-face-requires c κs = omega (arith, free (entry (edges-3 (known c))))
 
-add-faces-2 : tie.Need-add-faces-2
-add-faces-2 c = omega (arith, free (entry (edges-3 c)))
-
-mul-faces-6 : tie.Need-mul-faces-6
-mul-faces-6 c = omega (arith, free (entry (edges-3 c)))
-
-slice-write-faces-3 : tie.Need-slice-write-faces-3
-slice-write-faces-3 c =
-    let a = entry (edges-3 c) .args in
-    let n = c .before .before .before .before .number .result in
-    let fs = a .faces .now in
-    let i = 3 * a .had .faces in
-    omega (arith, free (entry (edges-3 c)), length-set fs i n, length-set (set fs i n) (i + 1) (c .before .before .number2 .result))
-
-add-t37 : tie.Need-add-t37
-add-t37 c = omega (arith, free (entry (edges-3 c)))
+add-t25 : tie.Need-add-t25
+add-t25 c = omega (arith, free (entry (edges-3 (known (numbered c)))))
 
 same-length : tie.Need-same-length
 same-length c = search needs
@@ -201,26 +171,29 @@ same-length-2 c = search needs
 
 returns : tie.Need-returns
 returns c =
-    let o = c .before .before .before .before .before .before .before .before in
+    let q = numbered c in
+    let third = known q in
+    let second = third .before in
+    let first = second .before in
+    let o = first .before .before .before in
     let n = two o in
     let m = one n in
     let s = entry (found m) in
     let t = s .args .table .now in
     let i = 3 * s .args .had .faces in
-    let first = c .before .before .before .before in
-    let second = c .before .before in
     let s0 : Places = (s .args .vertices .now, s .args .had .vertices) in
     record {
       placed = place-three t (point s) s0 _ _ _ _ _ _ (m .place .ensures) (n .place2 .ensures) (o .place3 .ensures) ∙ ap (placeAll t (point s) s0) (same-edges (found m));
-      written = three-stores (s .args .faces .now) i (first .number .result) (second .number2 .result) (c .number3 .result)
+      written = c .before .before .write-face .ensures
+          ∙ three-stores (s .args .faces .now) i (q .before .before .number .result) (q .before .number2 .result) (q .number3 .result)
           ∙ ap (sets (s .args .faces .now) i)
-          (three-same (first .number .ensures ∙ first .before .vertex-of .ensures) (second .number2 .ensures ∙ second .before .vertex-of2 .ensures) (c .number3 .ensures ∙ c .before .vertex-of3 .ensures)
+          (three-same (q .before .before .number .ensures ∙ first .vertex-of .ensures) (q .before .number2 .ensures ∙ second .vertex-of2 .ensures) (q .number3 .ensures ∙ third .vertex-of3 .ensures)
           ∙ ap (map (vertexIn t)) (same-edges (found m)));
       counted = omega arith;
     }
 
-pub write-face-spec : {M : Type 1} → statement M
-write-face-spec =
+pub place-face-spec : {M : Type 1} → statement M
+place-face-spec =
     tie.close
     (tie.spec
     array-read-cell-edge
@@ -233,23 +206,13 @@ write-face-spec =
     place-requires-2
     place-requires-3
     vertex-of-requires
-    number-requires
-    mul-faces
-    mul-faces-2
-    slice-write-faces
     vertex-of-requires-2
-    number-requires-2
-    mul-faces-3
-    add-faces
-    mul-faces-4
-    slice-write-faces-2
     vertex-of-requires-3
+    number-requires
+    number-requires-2
     number-requires-3
-    mul-faces-5
-    add-faces-2
-    mul-faces-6
-    slice-write-faces-3
-    add-t37
+    write-face-requires
+    add-t25
     same-length
     same-length-2
     returns)
