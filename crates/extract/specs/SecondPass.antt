@@ -49,10 +49,10 @@ abbrev pub EdgesOf : (values : List Float) (l : Lattice) (offsets : List ℕ) (f
 EdgesOf values l offsets first m =
     (e : ℕ) → e < 12 → (first + getD offsets e 0 < m) × (first + getD offsets e 0 < 50331648) × Inner values l (first + getD offsets e 0)
 
--- the lattice, its values and its edge table; and the cells from node n on, of which the last ends before node n + `past`
-pub record CellsInside (values : List Float) (table : List ℕ) (l : Lattice) (n past : ℕ) : Type 0 where
+-- the lattice, its values and its edge table; and the line of cells from node n on, with the four rows of nodes round it
+pub record CellsInside (values : List Float) (table : List ℕ) (l : Lattice) (n : ℕ) : Type 0 where
   pub counts : Counts (l .counts)
-  pub nodes : n + countY l * countZ l + past ≤ length values
+  pub nodes : n + countY l * countZ l + (countZ l + countZ l) ≤ length values
   pub edges : length table ≡ 3 * length values
   pub most : length values ≤ 16777216
 

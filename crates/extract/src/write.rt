@@ -8,7 +8,7 @@ ghost use Rattle.closed.specs.Rows.{flatTable, emitted};
 ghost use Rattle.grid.specs.Grid.{Counts};
 ghost use Rattle.cells.specs.Extraction.{countX, countY, countZ, edgePoint};
 ghost use Rattle.cells.specs.CellWords.{rowFaces, lineFaces, planeFaces, blockFaces, edgeOffsets, CubeFace, Inner};
-ghost use Rattle.numbering.specs.FirstPass.{none};
+ghost use Rattle.numbering.specs.FirstPass.{none, Numberable};
 ghost use Rattle.extract.specs.SecondPass.{place1, vertexIn, EdgesOf, CellsInside, RoomFor, Written, Writable, Mesh};
 use cells::cell_edge;
 use cells::edge_offsets;
@@ -190,7 +190,7 @@ fn write_cells(
     offsets: &[usize; 12],
     triangles: &[i8; 4096],
 ) -> MeshSize
-    requires { ⌜ CellsInside (now values) (now table) lattice (from .0) (countZ lattice + countZ lattice) × RoomFor (now table) (edgePoint (now values) lattice iso) (now vertices) (now faces) had (lineFaces (now values) (countY lattice) (countZ lattice) iso (from .0) (countZ lattice - 1)) × (now offsets ≡ edgeOffsets (countY lattice) (countZ lattice)) × (now triangles ≡ flatTable) ⌝ }
+    requires { ⌜ CellsInside (now values) (now table) lattice (from .0) × RoomFor (now table) (edgePoint (now values) lattice iso) (now vertices) (now faces) had (lineFaces (now values) (countY lattice) (countZ lattice) iso (from .0) (countZ lattice - 1)) × (now offsets ≡ edgeOffsets (countY lattice) (countZ lattice)) × (now triangles ≡ flatTable) ⌝ }
     ensures { λ r. ⌜ Written (now (table .entry)) (edgePoint (now (values .entry)) lattice iso) (now (vertices .entry)) (now (vertices .exit)) (now (faces .entry)) (now (faces .exit)) had r (lineFaces (now (values .entry)) (countY lattice) (countZ lattice) iso (from .0) (countZ lattice - 1)) ⌝ }
 {
     let ny = lattice.counts[1];
@@ -200,8 +200,8 @@ fn write_cells(
     let mut written = had.faces;
     let mut k = 0usize;
     while k + 1 < nz {
-        let far = side_of(values, ny, nz, Node::of(from.0 + k + 1), iso);
-        let first = Edge::of(Node::of(from.0 + k), 0);
+        let far = side_of(values, ny, nz, from.after(k + 1), iso);
+        let first = Edge::of(from.after(k), 0);
         let got = write_cell(
             vertices,
             faces,
@@ -242,7 +242,7 @@ fn write_line(
     offsets: &[usize; 12],
     triangles: &[i8; 4096],
 ) -> MeshSize
-    requires { ⌜ CellsInside (now values) (now table) lattice (from .0) (countZ lattice + countZ lattice) × RoomFor (now table) (edgePoint (now values) lattice iso) (now vertices) (now faces) had (lineFaces (now values) (countY lattice) (countZ lattice) iso (from .0) (countZ lattice - 1)) × (now offsets ≡ edgeOffsets (countY lattice) (countZ lattice)) × (now triangles ≡ flatTable) ⌝ }
+    requires { ⌜ CellsInside (now values) (now table) lattice (from .0) × RoomFor (now table) (edgePoint (now values) lattice iso) (now vertices) (now faces) had (lineFaces (now values) (countY lattice) (countZ lattice) iso (from .0) (countZ lattice - 1)) × (now offsets ≡ edgeOffsets (countY lattice) (countZ lattice)) × (now triangles ≡ flatTable) ⌝ }
     ensures { λ r. ⌜ Written (now (table .entry)) (edgePoint (now (values .entry)) lattice iso) (now (vertices .entry)) (now (vertices .exit)) (now (faces .entry)) (now (faces .exit)) had r (lineFaces (now (values .entry)) (countY lattice) (countZ lattice) iso (from .0) (countZ lattice - 1)) ⌝ }
 {
     if is_plain(values, lattice.counts[1], lattice.counts[2], from, iso) {
@@ -262,7 +262,7 @@ fn write_line(
     )
 }
 
-// The lines of a plane from a node on, along the middle axis.
+// The lines of plane i, along the middle axis.
 fn write_plane(
     vertices: &mut [f32],
     faces: &mut [u32],
@@ -270,16 +270,23 @@ fn write_plane(
     table: &[u32],
     lattice: Lattice,
     iso: f32,
-    from: Node,
+    i: usize,
     had: MeshSize,
     offsets: &[usize; 12],
     triangles: &[i8; 4096],
 ) -> MeshSize
-    requires { ⌜ CellsInside (now values) (now table) lattice (from .0) (countY lattice * countZ lattice) × RoomFor (now table) (edgePoint (now values) lattice iso) (now vertices) (now faces) had (planeFaces (now values) (countY lattice) (countZ lattice) iso (from .0) (countY lattice - 1)) × (now offsets ≡ edgeOffsets (countY lattice) (countZ lattice)) × (now triangles ≡ flatTable) ⌝ }
-    ensures { λ r. ⌜ Written (now (table .entry)) (edgePoint (now (values .entry)) lattice iso) (now (vertices .entry)) (now (vertices .exit)) (now (faces .entry)) (now (faces .exit)) had r (planeFaces (now (values .entry)) (countY lattice) (countZ lattice) iso (from .0) (countY lattice - 1)) ⌝ }
+    requires { ⌜ Numberable (now values) (now table) lattice
+        × (i + 1 < countX lattice)
+        × RoomFor (now table) (edgePoint (now values) lattice iso) (now vertices) (now faces) had
+        (planeFaces (now values) (countY lattice) (countZ lattice) iso i (countY lattice - 1))
+        × (now offsets ≡ edgeOffsets (countY lattice) (countZ lattice))
+        × (now triangles ≡ flatTable) ⌝ }
+    ensures { λ r.
+        ⌜ Written (now (table .entry)) (edgePoint (now (values .entry)) lattice iso)
+        (now (vertices .entry)) (now (vertices .exit)) (now (faces .entry)) (now (faces .exit)) had r
+        (planeFaces (now (values .entry)) (countY lattice) (countZ lattice) iso i (countY lattice - 1)) ⌝ }
 {
     let ny = lattice.counts[1];
-    let nz = lattice.counts[2];
     let mut placed = had.vertices;
     let mut written = had.faces;
     let mut j = 0usize;
@@ -291,7 +298,7 @@ fn write_plane(
             table,
             lattice,
             iso,
-            Node::of(from.0 + j * nz),
+            lattice.line_start(i, j),
             MeshSize {
                 vertices: placed,
                 faces: written,
@@ -320,11 +327,17 @@ fn write_planes(
     offsets: &[usize; 12],
     triangles: &[i8; 4096],
 ) -> MeshSize
-    requires { ⌜ CellsInside (now values) (now table) lattice 0 0 × (length (now values) ≡ countX lattice * countY lattice * countZ lattice) × RoomFor (now table) (edgePoint (now values) lattice iso) (now vertices) (now faces) none (blockFaces (now values) (countY lattice) (countZ lattice) iso (countX lattice - 1)) × (now offsets ≡ edgeOffsets (countY lattice) (countZ lattice)) × (now triangles ≡ flatTable) ⌝ }
-    ensures { λ r. ⌜ Written (now (table .entry)) (edgePoint (now (values .entry)) lattice iso) (now (vertices .entry)) (now (vertices .exit)) (now (faces .entry)) (now (faces .exit)) none r (blockFaces (now (values .entry)) (countY lattice) (countZ lattice) iso (countX lattice - 1)) ⌝ }
+    requires { ⌜ Numberable (now values) (now table) lattice
+        × RoomFor (now table) (edgePoint (now values) lattice iso) (now vertices) (now faces) none
+        (blockFaces (now values) (countY lattice) (countZ lattice) iso (countX lattice - 1))
+        × (now offsets ≡ edgeOffsets (countY lattice) (countZ lattice))
+        × (now triangles ≡ flatTable) ⌝ }
+    ensures { λ r.
+        ⌜ Written (now (table .entry)) (edgePoint (now (values .entry)) lattice iso)
+        (now (vertices .entry)) (now (vertices .exit)) (now (faces .entry)) (now (faces .exit)) none r
+        (blockFaces (now (values .entry)) (countY lattice) (countZ lattice) iso (countX lattice - 1)) ⌝ }
 {
     let nx = lattice.counts[0];
-    let plane = lattice.counts[1] * lattice.counts[2];
     let mut placed = 0usize;
     let mut written = 0usize;
     let mut i = 0usize;
@@ -336,7 +349,7 @@ fn write_planes(
             table,
             lattice,
             iso,
-            Node::of(i * plane),
+            i,
             MeshSize {
                 vertices: placed,
                 faces: written,

@@ -3,14 +3,14 @@
 use mathlib.Core.Path.{_≡_}
 use mathlib.Core.Bool.{cond}
 use mathlib.Core.List.{List, [], _∷_}
-use Prim.Native.Nat.{ℕ, _+_, _*_, _≤_}
+use Prim.Native.Nat.{ℕ, _+_, _*_, _≤_, _<_}
 use lib.Dec.{eqb}
 use lib.Ieee.{Float}
 use lib.ListN.{length, getD, set}
 use Rattle.lists.specs.Lists.{tabulate}
 use Rattle.closed.specs.Faces.{Face, corners}
 use Rattle.closed.specs.Numbering.{slot}
-use Rattle.grid.specs.Grid.{Counts}
+use Rattle.grid.specs.Grid.{Counts, planeStart}
 use Rattle.grid.specs.declared.Lattice.{Lattice}
 use Rattle.cells.specs.Extraction.{countX, countY, countZ, edgeFaces, vertexEdges}
 use Rattle.meshes.specs.declared.MeshSize.{MeshSize}
@@ -49,22 +49,6 @@ pub record Line (values : List Float) (table : List ℕ) (ny nz n : ℕ) (had : 
   pub most : length values ≤ 16777216
   pub few : Few had n
 
-pub record Plane (values : List Float) (table : List ℕ) (ny nz n : ℕ) (had : MeshSize) : Type 0 where
-  pub two : 2 ≤ nz
-  pub rows : 2 ≤ ny
-  pub inside : n + ny * nz + ny * nz ≤ length values
-  pub edges : length table ≡ 3 * length values
-  pub most : length values ≤ 16777216
-  pub few : Few had n
-
-pub record Block (values : List Float) (table : List ℕ) (nx ny nz : ℕ) : Type 0 where
-  pub two : 2 ≤ nz
-  pub rows : 2 ≤ ny
-  pub planes : 2 ≤ nx
-  pub inside : length values ≡ nx * ny * nz
-  pub edges : length table ≡ 3 * length values
-  pub most : length values ≤ 16777216
-
 -- ---- what the pass asks and promises
 
 -- the values and the edge table of a lattice
@@ -72,6 +56,12 @@ pub record Numberable (values : List Float) (table : List ℕ) (l : Lattice) : T
   pub counts : Counts (l .counts)
   pub nodes : length values ≡ countX l * countY l * countZ l
   pub edges : length table ≡ 3 * (countX l * countY l * countZ l)
+
+-- and plane i of them, before which there are few numbers
+pub record Plane (values : List Float) (table : List ℕ) (l : Lattice) (i : ℕ) (had : MeshSize) : Type 0 where
+  pub all : Numberable values table l
+  pub inside : i + 1 < countX l
+  pub few : Few had (planeStart (countY l) (countZ l) i)
 
 -- each edge's number: one more than its vertex, or 0
 abbrev pub edgeTable : (values : List Float) (l : Lattice) (iso : Float) → List ℕ

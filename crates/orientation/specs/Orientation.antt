@@ -1,5 +1,5 @@
--- Document 01, "Box, level, orientation, trim": the orientation of the faces, and a face's centre and normal; the trim needs the centre too. What a mesh is stands in the
--- crate `meshes`. Definitions only; assumes nothing.
+-- Document 01, "Box, level, orientation, trim": the orientation of the faces, and a face's centre and normal; the trim needs the centre too. What a mesh is
+-- stands in the crate `meshes`. Definitions only; assumes nothing.
 use mathlib.Core.Bool.{cond}
 use mathlib.Core.List.{List, [], _∷_, map, foldl}
 use Prim.Native.Nat.{ℕ}

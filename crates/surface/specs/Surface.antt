@@ -1,5 +1,5 @@
--- Document 01, "Box, level, orientation, trim": the level. The cube is in the crate `points`, the box of the vertices in `meshes`, the orientation in `orientation`, the
--- trim in `trim`. Definitions only; assumes nothing.
+-- Document 01, "Box, level, orientation, trim": the level. The cube is in the crate `points`, the box of the vertices in `meshes`, the orientation in
+-- `orientation`, the trim in `trim`. Definitions only; assumes nothing.
 use mathlib.Core.List.{List, foldl}
 use lib.IntN.{pos}
 use lib.ListN.{length}
