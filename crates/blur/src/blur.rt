@@ -4,7 +4,7 @@ ghost use mathlib.Core.Path.{_≡_};
 ghost use Prim.Native.Nat.{ℕ, _+_, _*_, _≤_, _<_};
 ghost use lib.ListN.{length};
 ghost use Rattle.lists.specs.Lists.{tabulate, at};
-ghost use Rattle.grid.specs.Grid.{Sides, allNodes};
+ghost use Rattle.grid.specs.Grid.{Sides, allNodes, rowStart};
 ghost use Rattle.blur.specs.Blur.{movedTo, withTerm, blurTo, blurAt, offsetCount};
 ghost use Rattle.blur.specs.Inner.{plusTimes, across, Reach, FirstOutside};
 use grid::Grid;
@@ -132,21 +132,29 @@ fn blur_along(out: &mut [f32], v: &[f32], kernel: &[f32], radius: usize)
 fn blur_row(
     out: &mut [f32],
     v: &[f32],
+    g: Grid,
     row: usize,
-    n: usize,
     axis: usize,
     kernel: &[f32],
     radius: usize,
 )
-    requires { ⌜ (n ≤ 256) × (row < n * n) × (length (now out) ≡ n) × (length (now v) ≡ n * n * n) × (radius ≤ 18) × (length (now kernel) ≡ offsetCount radius) ⌝ }
-    ensures { λ _. ⌜ now (out .exit) ≡ tabulate n (λ k. blurAt axis n radius (now (kernel .entry)) (now (v .entry)) (row * n + k)) ⌝ }
+    requires { ⌜ Sides (g .nodes)
+        × (row < g .nodes * g .nodes)
+        × (length (now out) ≡ g .nodes)
+        × (length (now v) ≡ allNodes g)
+        × (radius ≤ 18)
+        × (length (now kernel) ≡ offsetCount radius) ⌝ }
+    ensures { λ _.
+        ⌜ now (out .exit)
+        ≡ tabulate (g .nodes) (λ k. blurAt axis (g .nodes) radius (now (kernel .entry)) (now (v .entry)) (rowStart (g .nodes) row + k)) ⌝ }
 {
+    let n = g.nodes;
     let i = row / n;
     let j = row % n;
     if axis == 0 {
-        blur_across(out, v, Node::of(j * n), n * n, i, n, kernel, radius);
+        blur_across(out, v, g.row_start(j), n * n, i, n, kernel, radius);
     } else if axis == 1 {
-        blur_across(out, v, Node::of(i * (n * n)), n, j, n, kernel, radius);
+        blur_across(out, v, g.row_start(i * n), n, j, n, kernel, radius);
     } else {
         let a = row * n;
         let e = a + n;
@@ -164,7 +172,7 @@ pub fn blur_axis(g: Grid, v: &[f32], out: &mut [f32], axis: usize, kernel: &[f32
     while row < n * n {
         let a = row * n;
         let e = a + n;
-        blur_row(&mut out[a..e], v, row, n, axis, kernel, radius);
+        blur_row(&mut out[a..e], v, g, row, axis, kernel, radius);
         row += 1;
     }
 }

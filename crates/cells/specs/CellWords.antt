@@ -12,7 +12,7 @@ use Rattle.closed.specs.Faces.{Face, mapFace}
 use Rattle.closed.specs.Table.{cornerAt, lowOf, cubeAxis, caseOf}
 use Rattle.closed.specs.Rows.{emitted}
 use Rattle.closed.specs.Grid.{node, edge}
-use Rattle.grid.specs.Grid.{nodeOf}
+use Rattle.grid.specs.Grid.{lineStart, nodeOf}
 use Rattle.grid.specs.declared.Lattice.{Lattice}
 use Rattle.cells.specs.Extraction.{countY, countZ, isBelow}
 
@@ -58,15 +58,15 @@ edgeOffsets ny nz = tabulate 12 (edgeOffset ny nz)
 unfoldable pub facesAt : (values : List Float) (ny nz : ℕ) (iso : Float) (n : ℕ) → List Face
 facesAt values ny nz iso n = rowFaces (edgeOffsets ny nz) (3 * n) (caseAt values ny nz iso n)
 
--- of the cells of a line, of a plane and of all, whose first node is n
+-- of the cells of a line whose first node is n; of the first lines of plane i; and of the first planes
 abbrev pub lineFaces : (values : List Float) (ny nz : ℕ) (iso : Float) (n k : ℕ) → List Face
 lineFaces values ny nz iso n k = cells k (λ c. facesAt values ny nz iso (n + c))
 
-abbrev pub planeFaces : (values : List Float) (ny nz : ℕ) (iso : Float) (n j : ℕ) → List Face
-planeFaces values ny nz iso n j = cells j (λ b. lineFaces values ny nz iso (n + b * nz) (nz - 1))
+abbrev pub planeFaces : (values : List Float) (ny nz : ℕ) (iso : Float) (i j : ℕ) → List Face
+planeFaces values ny nz iso i j = cells j (λ b. lineFaces values ny nz iso (lineStart ny nz i b) (nz - 1))
 
 abbrev pub blockFaces : (values : List Float) (ny nz : ℕ) (iso : Float) (i : ℕ) → List Face
-blockFaces values ny nz iso i = cells i (λ a. planeFaces values ny nz iso (a * (ny * nz)) (ny - 1))
+blockFaces values ny nz iso i = cells i (λ a. planeFaces values ny nz iso a (ny - 1))
 
 -- ---- what is asked of a cell
 

@@ -4,7 +4,7 @@ use mathlib.Core.Path.{_≡_, refl, sym, ap, ap₂, _∙_, subst}
 use mathlib.Core.Bool.{Bool}
 use mathlib.Core.List.{List, [], _∷_, map}
 use Prim.Native.Nat.{ℕ, zero, suc, _+_, _-_, _*_, _≤_, _<_}
-use native.Mathlib.Nat.{add-mul, mul-assoc, mul-le-mul-right, one-mul}
+use native.Mathlib.Nat.{add-mul, mul-le-mul-right, one-mul}
 use native.Mathlib.Omega.{arith}
 use lib.Ieee.{Float}
 use lib.ListN.{length, getD}
@@ -20,6 +20,7 @@ use Rattle.closed.specs.Bounds.{caseOf-lt}
 use Rattle.closed.specs.Renumber.{in-all}
 use Rattle.closed.specs.Crossings.{used-crossed, crossed-lt}
 use Rattle.grid.specs.Grid.{Counts, Position, nodeAt}
+use Rattle.grid.specs.Numbering.{line-node}
 use Rattle.grid.specs.declared.Lattice.{Lattice}
 use Rattle.cubes.specs.Cube.{placeOf}
 use Rattle.cubes.specs.Edges.{in-cube, axis-small}
@@ -29,24 +30,20 @@ use Rattle.cells.specs.CellWords.{nodeOffset, edgeOffset, stride, sideAt
 
 -- ---- numbers of nodes add up
 
-pub flat : (ny nz i j k : ℕ) → node ny nz i j k ≡ i * (ny * nz) + j * nz + k
-unfolding node
-flat ny nz i j k = omega (arith, add-mul (i * ny) j nz, mul-assoc i ny nz)
-
 pub node-add : (ny nz i j k a b c : ℕ) → node ny nz (i + a) (j + b) (k + c) ≡ node ny nz i j k + node ny nz a b c
 node-add ny nz i j k a b c =
-    omega (arith, flat ny nz (i + a) (j + b) (k + c), flat ny nz i j k, flat ny nz a b c, add-mul i a (ny * nz), add-mul j b nz)
+    omega (arith, line-node ny nz (i + a) (j + b) (k + c), line-node ny nz i j k, line-node ny nz a b c, add-mul i a (ny * nz), add-mul j b nz)
 
 pub unit-node : (ny nz a b c : ℕ) → a ≤ 1 → b ≤ 1 → c ≤ 1 → node ny nz a b c ≤ ny * nz + nz + 1
 unit-node ny nz a b c ha hb hc =
-    omega (arith, flat ny nz a b c, mul-le-mul-right (ny * nz) ha, mul-le-mul-right nz hb, one-mul (ny * nz), one-mul nz)
+    omega (arith, line-node ny nz a b c, mul-le-mul-right (ny * nz) ha, mul-le-mul-right nz hb, one-mul (ny * nz), one-mul nz)
 
 -- one step along an axis
 pub unit-stride : (ny nz axis : ℕ) → axis < 3 → node ny nz (unit axis 0) (unit axis 1) (unit axis 2) ≡ stride ny nz axis
 unfolding stride
-unit-stride ny nz zero h = omega (arith, flat ny nz 1 0 0)
-unit-stride ny nz (suc zero) h = omega (arith, flat ny nz 0 1 0)
-unit-stride ny nz (suc (suc zero)) h = omega (arith, flat ny nz 0 0 1)
+unit-stride ny nz zero h = omega (arith, line-node ny nz 1 0 0)
+unit-stride ny nz (suc zero) h = omega (arith, line-node ny nz 0 1 0)
+unit-stride ny nz (suc (suc zero)) h = omega (arith, line-node ny nz 0 0 1)
 unit-stride ny nz (suc (suc (suc a))) h = absurd (omega arith)
 
 -- ---- the case of a cell
@@ -76,14 +73,14 @@ module _ (values : List Float) (ny nz : ℕ) (iso : Float) (n : ℕ) where
   two-sides near far e f =
       omega (
         arith,
-        corner-bit 0 n (omega (arith, flat ny nz 0 0 0)),
-        corner-bit 1 (n + ny * nz) (omega (arith, flat ny nz 1 0 0)),
-        corner-bit 2 (n + ny * nz + nz) (omega (arith, flat ny nz 1 1 0)),
-        corner-bit 3 (n + nz) (omega (arith, flat ny nz 0 1 0)),
-        corner-bit 4 (n + 1) (omega (arith, flat ny nz 0 0 1)),
-        corner-bit 5 (n + 1 + ny * nz) (omega (arith, flat ny nz 1 0 1)),
-        corner-bit 6 (n + 1 + ny * nz + nz) (omega (arith, flat ny nz 1 1 1)),
-        corner-bit 7 (n + 1 + nz) (omega (arith, flat ny nz 0 1 1)),
+        corner-bit 0 n (omega (arith, line-node ny nz 0 0 0)),
+        corner-bit 1 (n + ny * nz) (omega (arith, line-node ny nz 1 0 0)),
+        corner-bit 2 (n + ny * nz + nz) (omega (arith, line-node ny nz 1 1 0)),
+        corner-bit 3 (n + nz) (omega (arith, line-node ny nz 0 1 0)),
+        corner-bit 4 (n + 1) (omega (arith, line-node ny nz 0 0 1)),
+        corner-bit 5 (n + 1 + ny * nz) (omega (arith, line-node ny nz 1 0 1)),
+        corner-bit 6 (n + 1 + ny * nz + nz) (omega (arith, line-node ny nz 1 1 1)),
+        corner-bit 7 (n + 1 + nz) (omega (arith, line-node ny nz 0 1 1)),
       )
 
 -- ---- the edges of a cell
@@ -160,7 +157,7 @@ pub block-is-grid : (values : List Float) (nx ny nz : ℕ) (iso : Float)
 unfolding gridFaces cells3
 block-is-grid values nx ny nz iso =
     cells-cong (nx - 1) _ _ (λ i bi. cells-cong (ny - 1) _ _ (λ j bj. cells-cong (nz - 1) _ _ (λ k bk.
-    ap (facesAt values ny nz iso) (sym (flat ny nz i j k)) ∙ faces-of-cell values ny nz iso i j k)))
+    ap (facesAt values ny nz iso) (sym (line-node ny nz i j k)) ∙ faces-of-cell values ny nz iso i j k)))
 
 -- ---- all cells of a lattice: each edge is one of 3N, and the faces are those of Extraction
 

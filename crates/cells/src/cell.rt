@@ -56,11 +56,11 @@ pub fn is_plain(values: &[f32], ny: usize, nz: usize, from: Node, iso: f32) -> b
     requires { ⌜ (from .0 + ny * nz + nz + nz ≤ length (now values)) × (length (now values) ≤ 16777216) ⌝ }
     ensures { λ r. ⌜ r ≡ plainLine (now (values .entry)) ny nz iso (from .0) ⌝ }
 {
-    let plane = from.0 + ny * nz;
+    let plane = from.after(ny * nz);
     let count = count_below(values, from, nz, iso)
-        + count_below(values, Node::of(plane), nz, iso)
-        + count_below(values, Node::of(plane + nz), nz, iso)
-        + count_below(values, Node::of(from.0 + nz), nz, iso);
+        + count_below(values, plane, nz, iso)
+        + count_below(values, plane.after(nz), nz, iso)
+        + count_below(values, from.after(nz), nz, iso);
     if count == 0 {
         return true;
     }

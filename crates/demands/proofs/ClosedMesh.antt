@@ -19,7 +19,8 @@ use Rattle.grid.specs.Rows.{cube-counts}
 use Rattle.levels.specs.BoundaryAlike.{boundary-alike, outer}
 use Rattle.cells.specs.Extraction.{isBelow, belowAt, extractedFaces, extractedVertices, vertexEdges, edgeFaces}
 use Rattle.extract.specs.Claims.{one-to-one, places, three-different, faces-counted, closed}
-use Rattle.orientation.specs.Orientation.{vertexCount, orientedFaces}
+use Rattle.meshes.specs.FlatMesh.{vertexCount}
+use Rattle.orientation.specs.Orientation.{orientedFaces}
 use Rattle.orientation.specs.Orienting.{oriented-balanced, oriented-apart, oriented-length, oriented-meshed}
 use Rattle.trim.specs.Trim.{trimmedVertices, trimmedFaces}
 use Rattle.points.specs.declared.point.Point.{Point}

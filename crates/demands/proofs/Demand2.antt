@@ -1,9 +1,7 @@
 -- Demand 2 of whatever meets the contracts: answer and slices are those of `reconstructed`, and under a verdict that passes those are the definitions put
 -- together; so for the field alone. Assumes nothing.
 use mathlib.Core.Path.{_≡_, refl, sym, ap, _∙_}
-use mathlib.Core.Bool.{Bool, true, false, cond}
 use mathlib.Core.List.{List}
-use borrow.Author.Tests.{eq-eqb, eqb-true}
 use lib.ListN.{length}
 use lib.Ieee.{Float}
 use Rattle.lists.specs.Lists.{zero32, padded}
@@ -14,28 +12,14 @@ use Rattle.settings.specs.declared.Settings.{Settings}
 use Rattle.settings.specs.declared.Answer.{Answer}
 use Rattle.settings.specs.declared.Verdict.{Verdict}
 use Rattle.settings.specs.declared.Verdict.the-variants.{Pass}
-use Rattle.settings.specs.Answers.{numberOf, accepts, refused, answerUnder}
-use Rattle.settings.specs.Passed.{accepted}
+use Rattle.settings.specs.Answers.{numberOf}
+use Rattle.settings.specs.Passed.{passed, number-under}
 use Rattle.ending.specs.Slices.{Slices, FieldSlices}
 use Rattle.scan.specs.Reconstruction.{Results, keptVertices, keptFaces, lengthsOf, verdictOf, acceptedAnswer, resultsUnder, reconstructed}
 use Rattle.scan.specs.FieldAlone.{FieldResults, fieldLengths, fieldVerdict, fieldAnswer, fieldUnder, fieldResults}
 use Rattle.alone.specs.Outcome.{fieldOf}
 use Rattle.demands.specs.Call.{Meets, FieldMeets}
 use Rattle.demands.specs.Demand2.{Demand2, Demand2Field}
-
--- ---- number and verdict
-
--- number 0 is acceptance
-passed : (v : Verdict) → numberOf v ≡ 0 → v ≡ Pass
-passed v e = accepted v (eq-eqb (numberOf v) 0 e)
-
--- whatever would be answered under acceptance, the number is the verdict's
-number-under : (v : Verdict) (a : Answer) → a .number ≡ 0 → answerUnder v a .number ≡ numberOf v
-number-under v a z = by-cases (accepts v) refl
-  where
-    by-cases : (b : Bool) → accepts v ≡ b → cond b a (refused v) .number ≡ numberOf v
-    by-cases true e = z ∙ sym (eqb-true (numberOf v) 0 e)
-    by-cases false e = refl
 
 -- ---- the whole call
 

@@ -21,7 +21,7 @@ use Rattle.closed.specs.Renumber.{in-or-not, in-note, note-old, note-new, index
 use Rattle.grid.specs.Grid.{Counts}
 use Rattle.grid.specs.declared.Lattice.{Lattice}
 use Rattle.cells.specs.Extraction.{countX, countY, countZ, pointsOf, edgePoint, edgeFaces, vertexEdges, extractedFaces, extractedVertices}
-use Rattle.numbering.specs.declared.Totals.{Totals}
+use Rattle.meshes.specs.declared.MeshSize.{MeshSize}
 use Rattle.cells.specs.Cells.{edges-below, block-faces}
 use Rattle.closed.specs.Turning.{length-corners}
 use Rattle.cells.specs.CellWords.{blockFaces}
@@ -138,7 +138,7 @@ module _ (values : List Float) (l : Lattice) (iso : Float) (counts : Counts (l .
       ∙ ap (λ (t : List ℕ). map (vertexIn t) (corners (edgeFaces values l iso))) numbers
       ∙ vertices-of (3 * (countX l * countY l * countZ l)) (edgeFaces values l iso) (edges-below values l iso counts)
 
-  pub mesh-all : (vs′ : List Float) (os′ : List ℕ) (r : Totals)
+  pub mesh-all : (vs′ : List Float) (os′ : List ℕ) (r : MeshSize)
       → Written table (edgePoint values l iso) vs vs′ os os′ none r (blockFaces values (countY l) (countZ l) iso (countX l - 1)) → Mesh values l iso vs′ os′
   unfolding extractedVertices
   mesh-all vs′ os′ r w =

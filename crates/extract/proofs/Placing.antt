@@ -22,7 +22,7 @@ use Rattle.cells.specs.Extraction.{edgePoint}
 use Rattle.cells.specs.CellWords.{rowFaces}
 use Rattle.cells.specs.Rows.{firstFaces, one-more, rest-faces}
 use Rattle.extract.specs.SecondPass.{Places, place1, placeAll, vertexIn, Written, RoomFor}
-use Rattle.numbering.specs.declared.Totals.{Totals}
+use Rattle.meshes.specs.declared.MeshSize.{MeshSize}
 
 -- ---- a run of stores in two parts
 
@@ -100,19 +100,19 @@ module _ (table : List ℕ) (point : ℕ → List Float) where
 module _ {table : List ℕ} {point : ℕ → List Float} where
   -- ---- what is written, and room, for a list of faces that is equal
 
-  pub written-as : {vs vt : List Float} {os ot : List ℕ} {a b : Totals} {fs gs : List Face} → fs ≡ gs → Written table point vs vt os ot a b fs → Written table point vs vt os ot a b gs
+  pub written-as : {vs vt : List Float} {os ot : List ℕ} {a b : MeshSize} {fs gs : List Face} → fs ≡ gs → Written table point vs vt os ot a b fs → Written table point vs vt os ot a b gs
   written-as {vs} {vt} {os} {ot} {a} {b} e w = subst (Written table point vs vt os ot a b) e w
 
-  pub room-as : {vs : List Float} {os : List ℕ} {a : Totals} {fs gs : List Face} → fs ≡ gs → RoomFor table point vs os a fs → RoomFor table point vs os a gs
+  pub room-as : {vs : List Float} {os : List ℕ} {a : MeshSize} {fs gs : List Face} → fs ≡ gs → RoomFor table point vs os a fs → RoomFor table point vs os a gs
   room-as {vs} {os} {a} e r = subst (RoomFor table point vs os a) e r
 
   -- ---- the faces of a part of the cells, and of the next part
 
-  pub written-none : {vs : List Float} {os : List ℕ} {had : Totals} → Written table point vs vs os os had had []
+  pub written-none : {vs : List Float} {os : List ℕ} {had : MeshSize} → Written table point vs vs os os had had []
   unfolding placeAll
   written-none = record { placed = refl; written = refl; counted = omega arith }
 
-  pub written-append : {vs vt vu : List Float} {os ot ou : List ℕ} {a b c : Totals} {fs gs : List Face}
+  pub written-append : {vs vt vu : List Float} {os ot ou : List ℕ} {a b c : MeshSize} {fs gs : List Face}
       → Written table point vs vt os ot a b fs → Written table point vt vu ot ou b c gs → Written table point vs vu os ou a c (fs ++ gs)
   written-append {vs} {vt} {vu} {os} {ot} {ou} {a} {b} {c} {fs} {gs} x y =
       let place : 3 * b .faces ≡ 3 * a .faces + length (map (vertexIn table) (corners fs)) =
@@ -130,15 +130,15 @@ module _ {table : List ℕ} {point : ℕ → List Float} where
         counted = omega (arith, x .counted, y .counted, length-append fs gs);
       }
 
-  pub vertices-kept : {vs vt : List Float} {os ot : List ℕ} {a b : Totals} {fs : List Face} → Written table point vs vt os ot a b fs → length vt ≡ length vs
+  pub vertices-kept : {vs vt : List Float} {os ot : List ℕ} {a b : MeshSize} {fs : List Face} → Written table point vs vt os ot a b fs → length vt ≡ length vs
   vertices-kept {vs} {vt} {os} {ot} {a} {b} {fs} x = ap (λ (s : Places). length (s .0)) (x .placed) ∙ places-kept table point (vs, a .vertices) (corners fs)
 
-  pub faces-kept : {vs vt : List Float} {os ot : List ℕ} {a b : Totals} {fs : List Face} → Written table point vs vt os ot a b fs → length ot ≡ length os
+  pub faces-kept : {vs vt : List Float} {os ot : List ℕ} {a b : MeshSize} {fs : List Face} → Written table point vs vt os ot a b fs → length ot ≡ length os
   faces-kept {vs} {vt} {os} {ot} {a} {b} {fs} x = ap length (x .written) ∙ length-sets os (3 * a .faces) (map (vertexIn table) (corners fs))
 
   -- ---- room for the next part, where there is room for all
 
-  pub room-next : {vs vt : List Float} {os ot : List ℕ} {a b : Totals} (fs gs hs : List Face) → RoomFor table point vs os a (fs ++ gs ++ hs)
+  pub room-next : {vs vt : List Float} {os ot : List ℕ} {a b : MeshSize} (fs gs hs : List Face) → RoomFor table point vs os a (fs ++ gs ++ hs)
       → Written table point vs vt os ot a b fs → RoomFor table point vt ot b gs
   room-next {vs} {vt} {os} {ot} {a} {b} fs gs hs r w =
       let append = places-append table point in
@@ -176,27 +176,27 @@ cells-rest {A} (suc n) f k h = by-cases (decLt k (suc n)) (cells-rest n f k)
 -- ---- cell after cell: room for the next; none is written at first, then one more, then all
 
 module _ {table : List ℕ} {point : ℕ → List Float} (f : ℕ → List Face) where
-  pub room-cell : {vs vt : List Float} {os ot : List ℕ} {a b : Totals} (n k : ℕ) → k < n
+  pub room-cell : {vs vt : List Float} {os ot : List ℕ} {a b : MeshSize} (n k : ℕ) → k < n
       → RoomFor table point vs os a (cells n f) → Written table point vs vt os ot a b (cells k f) → RoomFor table point vt ot b (f k)
   room-cell n k h r w =
       let t = cells-rest n f (k + 1) (omega arith) in
       room-next (cells k f) (f k) (t .0) (room-as (t .1 ∙ ap (λ (l : List Face). l ++ t .0) (cells-one-more k f)) r) w
 
-  pub written-start : {vs : List Float} {os : List ℕ} {had : Totals} → Written table point vs vs os os had had (cells 0 f)
+  pub written-start : {vs : List Float} {os : List ℕ} {had : MeshSize} → Written table point vs vs os os had had (cells 0 f)
   unfolding cells
   written-start = written-none
 
-  pub written-more-cells : {vs vt vu : List Float} {os ot ou : List ℕ} {a b c : Totals} (k : ℕ)
+  pub written-more-cells : {vs vt vu : List Float} {os ot ou : List ℕ} {a b c : MeshSize} (k : ℕ)
       → Written table point vs vt os ot a b (cells k f) → Written table point vt vu ot ou b c (f k) → Written table point vs vu os ou a c (cells (k + 1) f)
   written-more-cells k x y = written-as (sym (cells-one-more k f)) (written-append x y)
 
-  pub written-all : {vs vt : List Float} {os ot : List ℕ} {a b : Totals} {k n : ℕ} → k ≡ n → Written table point vs vt os ot a b (cells k f) → Written table point vs vt os ot a b (cells n f)
+  pub written-all : {vs vt : List Float} {os ot : List ℕ} {a b : MeshSize} {k n : ℕ} → k ≡ n → Written table point vs vt os ot a b (cells k f) → Written table point vs vt os ot a b (cells n f)
   written-all e w = written-as (ap (λ (m : ℕ). cells m f) e) w
 
 -- ---- face after face of a row
 
 module _ {table : List ℕ} {point : ℕ → List Float} (offsets : List ℕ) (first case k : ℕ) where
-  pub room-face : {vs vt : List Float} {os ot : List ℕ} {a b : Totals} (f : Face) → k < length (emitted case) → f ≡ getD (emitted case) k (face 0 0 0)
+  pub room-face : {vs vt : List Float} {os ot : List ℕ} {a b : MeshSize} (f : Face) → k < length (emitted case) → f ≡ getD (emitted case) k (face 0 0 0)
       → RoomFor table point vs os a (rowFaces offsets first case) → Written table point vs vt os ot a b (firstFaces offsets first case k) → RoomFor table point vt ot b (mapFace (λ e. first + getD offsets e 0) f ∷ [])
   room-face f h e r w =
       let g : Face → Face = mapFace (λ e. first + getD offsets e 0) in
@@ -205,7 +205,7 @@ module _ {table : List ℕ} {point : ℕ → List Float} (offsets : List ℕ) (f
       (room-next (firstFaces offsets first case k) (g (getD (emitted case) k (face 0 0 0)) ∷ []) rest
       (room-as (rest-faces offsets first case (k + 1) ∙ ap (λ (l : List Face). l ++ rest) (one-more offsets first case k h)) r) w)
 
-  pub written-more-faces : {vs vt vu : List Float} {os ot ou : List ℕ} {a b c : Totals} (f : Face) → k < length (emitted case) → f ≡ getD (emitted case) k (face 0 0 0)
+  pub written-more-faces : {vs vt vu : List Float} {os ot ou : List ℕ} {a b c : MeshSize} (f : Face) → k < length (emitted case) → f ≡ getD (emitted case) k (face 0 0 0)
       → Written table point vs vt os ot a b (firstFaces offsets first case k) → Written table point vt vu ot ou b c (mapFace (λ e. first + getD offsets e 0) f ∷ [])
       → Written table point vs vu os ou a c (firstFaces offsets first case (k + 1))
   written-more-faces f h e x y =

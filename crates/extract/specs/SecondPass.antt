@@ -13,7 +13,7 @@ use Rattle.grid.specs.Grid.{Counts}
 use Rattle.grid.specs.declared.Lattice.{Lattice}
 use Rattle.cells.specs.Extraction.{countY, countZ, edgeFaces, vertexEdges, extractedFaces, extractedVertices}
 use Rattle.cells.specs.CellWords.{Inner}
-use Rattle.numbering.specs.declared.Totals.{Totals}
+use Rattle.meshes.specs.declared.MeshSize.{MeshSize}
 use Rattle.numbering.specs.FirstPass.{Numberable, edgeTable}
 
 -- ---- writing: the coordinates, and how many vertices they are of; the faces
@@ -34,13 +34,13 @@ abbrev pub vertexIn : (table : List ℕ) (e : ℕ) → ℕ
 vertexIn table e = getD table e 0 - 1
 
 -- the faces fs were written, from `had` to `got`, with vs′ and os′ for the slices vs and os
-pub record Written (table : List ℕ) (point : ℕ → List Float) (vs vs′ : List Float) (os os′ : List ℕ) (had got : Totals) (fs : List Face) : Type 0 where
+pub record Written (table : List ℕ) (point : ℕ → List Float) (vs vs′ : List Float) (os os′ : List ℕ) (had got : MeshSize) (fs : List Face) : Type 0 where
   pub placed : _≡_ {A = Places} (vs′, got .vertices) (placeAll table point (vs, had .vertices) (corners fs))
   pub written : os′ ≡ sets os (3 * had .faces) (map (vertexIn table) (corners fs))
   pub counted : got .faces ≡ had .faces + length fs
 
 -- there is room for them
-pub record RoomFor (table : List ℕ) (point : ℕ → List Float) (vs : List Float) (os : List ℕ) (had : Totals) (fs : List Face) : Type 0 where
+pub record RoomFor (table : List ℕ) (point : ℕ → List Float) (vs : List Float) (os : List ℕ) (had : MeshSize) (fs : List Face) : Type 0 where
   pub vertices : 3 * placeAll table point (vs, had .vertices) (corners fs) .1 ≤ length vs
   pub faces : 3 * (had .faces + length fs) ≤ length os
 
@@ -49,10 +49,10 @@ abbrev pub EdgesOf : (values : List Float) (l : Lattice) (offsets : List ℕ) (f
 EdgesOf values l offsets first m =
     (e : ℕ) → e < 12 → (first + getD offsets e 0 < m) × (first + getD offsets e 0 < 50331648) × Inner values l (first + getD offsets e 0)
 
--- the lattice, its values and its edge table; and the cells from node n on, of which the last ends before node n + `past`
-pub record CellsInside (values : List Float) (table : List ℕ) (l : Lattice) (n past : ℕ) : Type 0 where
+-- the lattice, its values and its edge table; and the line of cells from node n on, with the four rows of nodes round it
+pub record CellsInside (values : List Float) (table : List ℕ) (l : Lattice) (n : ℕ) : Type 0 where
   pub counts : Counts (l .counts)
-  pub nodes : n + countY l * countZ l + past ≤ length values
+  pub nodes : n + countY l * countZ l + (countZ l + countZ l) ≤ length values
   pub edges : length table ≡ 3 * length values
   pub most : length values ≤ 16777216
 

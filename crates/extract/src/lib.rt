@@ -3,6 +3,5 @@
 // vertices and the faces.
 mod write;
 
-pub use numbering::Totals;
 pub use numbering::number_edges;
 pub use write::write_mesh;

@@ -8,7 +8,7 @@ ghost use Rattle.closed.specs.Rows.{flatTable, emitted};
 ghost use Rattle.grid.specs.Grid.{Counts};
 ghost use Rattle.cells.specs.Extraction.{countX, countY, countZ, edgePoint};
 ghost use Rattle.cells.specs.CellWords.{rowFaces, lineFaces, planeFaces, blockFaces, edgeOffsets, CubeFace, Inner};
-ghost use Rattle.numbering.specs.FirstPass.{none};
+ghost use Rattle.numbering.specs.FirstPass.{none, Numberable};
 ghost use Rattle.extract.specs.SecondPass.{place1, vertexIn, EdgesOf, CellsInside, RoomFor, Written, Writable, Mesh};
 use cells::cell_edge;
 use cells::edge_offsets;
@@ -19,7 +19,8 @@ use grid::Edge;
 use grid::Lattice;
 use grid::Node;
 use grid::Vertex;
-use numbering::Totals;
+use meshes::MeshSize;
+use meshes::write_face;
 
 // At the first use of its edge a vertex's number is how many are written: its coordinates come next. The answer is how many are written then.
 fn place(
@@ -57,7 +58,7 @@ fn vertex_of(table: &[u32], edge: Edge) -> Vertex
 }
 
 // A face: the vertices that it uses first, then its three numbers.
-fn write_face(
+fn place_face(
     vertices: &mut [f32],
     faces: &mut [u32],
     values: &[f32],
@@ -66,9 +67,9 @@ fn write_face(
     iso: f32,
     first: Edge,
     face: [usize; 3],
-    had: Totals,
+    had: MeshSize,
     offsets: &[usize; 12],
-) -> Totals
+) -> MeshSize
     requires { ⌜ Counts (lattice .counts) × EdgesOf (now values) lattice (now offsets) (first .0) (length (now table)) × CubeFace face × RoomFor (now table) (edgePoint (now values) lattice iso) (now vertices) (now faces) had (mapFace (λ e. first .0 + getD (now offsets) e 0) (faceOf face) ∷ []) ⌝ }
     ensures { λ r. ⌜ Written (now (table .entry)) (edgePoint (now (values .entry)) lattice iso) (now (vertices .entry)) (now (vertices .exit)) (now (faces .entry)) (now (faces .exit)) had r (mapFace (λ e. first .0 + getD (now (offsets .entry)) e 0) (faceOf face) ∷ []) ⌝ }
 {
@@ -80,10 +81,11 @@ fn write_face(
     let one = place(vertices, values, table, lattice, iso, a, count);
     let two = place(vertices, values, table, lattice, iso, b, one);
     let three = place(vertices, values, table, lattice, iso, c, two);
-    faces[3 * done] = vertex_of(table, a).number();
-    faces[3 * done + 1] = vertex_of(table, b).number();
-    faces[3 * done + 2] = vertex_of(table, c).number();
-    Totals {
+    let x = vertex_of(table, a);
+    let y = vertex_of(table, b);
+    let z = vertex_of(table, c);
+    write_face(faces, done, [x.number(), y.number(), z.number()]);
+    MeshSize {
         vertices: three,
         faces: done + 1,
     }
@@ -99,10 +101,10 @@ fn write_row(
     iso: f32,
     first: Edge,
     case: usize,
-    had: Totals,
+    had: MeshSize,
     offsets: &[usize; 12],
     triangles: &[i8; 4096],
-) -> Totals
+) -> MeshSize
     requires { ⌜ Counts (lattice .counts) × EdgesOf (now values) lattice (now offsets) (first .0) (length (now table)) × (case < 256) × RoomFor (now table) (edgePoint (now values) lattice iso) (now vertices) (now faces) had (rowFaces (now offsets) (first .0) case) × (now triangles ≡ flatTable) ⌝ }
     ensures { λ r. ⌜ Written (now (table .entry)) (edgePoint (now (values .entry)) lattice iso) (now (vertices .entry)) (now (vertices .exit)) (now (faces .entry)) (now (faces .exit)) had r (rowFaces (now (offsets .entry)) (first .0) case) ⌝ }
 {
@@ -112,7 +114,7 @@ fn write_row(
     let mut k = 0usize;
     while k < most {
         let face = cubes::row_face(triangles, case, k);
-        let got = write_face(
+        let got = place_face(
             vertices,
             faces,
             values,
@@ -121,7 +123,7 @@ fn write_row(
             iso,
             first,
             face,
-            Totals {
+            MeshSize {
                 vertices: placed,
                 faces: written,
             },
@@ -131,7 +133,7 @@ fn write_row(
         written = got.faces;
         k += 1;
     }
-    Totals {
+    MeshSize {
         vertices: placed,
         faces: written,
     }
@@ -147,10 +149,10 @@ fn write_cell(
     iso: f32,
     first: Edge,
     case: usize,
-    had: Totals,
+    had: MeshSize,
     offsets: &[usize; 12],
     triangles: &[i8; 4096],
-) -> Totals
+) -> MeshSize
     requires { ⌜ Counts (lattice .counts) × EdgesOf (now values) lattice (now offsets) (first .0) (length (now table)) × (case < 256) × RoomFor (now table) (edgePoint (now values) lattice iso) (now vertices) (now faces) had (rowFaces (now offsets) (first .0) case) × (now triangles ≡ flatTable) ⌝ }
     ensures { λ r. ⌜ Written (now (table .entry)) (edgePoint (now (values .entry)) lattice iso) (now (vertices .entry)) (now (vertices .exit)) (now (faces .entry)) (now (faces .exit)) had r (rowFaces (now (offsets .entry)) (first .0) case) ⌝ }
 {
@@ -184,11 +186,11 @@ fn write_cells(
     lattice: Lattice,
     iso: f32,
     from: Node,
-    had: Totals,
+    had: MeshSize,
     offsets: &[usize; 12],
     triangles: &[i8; 4096],
-) -> Totals
-    requires { ⌜ CellsInside (now values) (now table) lattice (from .0) (countZ lattice + countZ lattice) × RoomFor (now table) (edgePoint (now values) lattice iso) (now vertices) (now faces) had (lineFaces (now values) (countY lattice) (countZ lattice) iso (from .0) (countZ lattice - 1)) × (now offsets ≡ edgeOffsets (countY lattice) (countZ lattice)) × (now triangles ≡ flatTable) ⌝ }
+) -> MeshSize
+    requires { ⌜ CellsInside (now values) (now table) lattice (from .0) × RoomFor (now table) (edgePoint (now values) lattice iso) (now vertices) (now faces) had (lineFaces (now values) (countY lattice) (countZ lattice) iso (from .0) (countZ lattice - 1)) × (now offsets ≡ edgeOffsets (countY lattice) (countZ lattice)) × (now triangles ≡ flatTable) ⌝ }
     ensures { λ r. ⌜ Written (now (table .entry)) (edgePoint (now (values .entry)) lattice iso) (now (vertices .entry)) (now (vertices .exit)) (now (faces .entry)) (now (faces .exit)) had r (lineFaces (now (values .entry)) (countY lattice) (countZ lattice) iso (from .0) (countZ lattice - 1)) ⌝ }
 {
     let ny = lattice.counts[1];
@@ -198,8 +200,8 @@ fn write_cells(
     let mut written = had.faces;
     let mut k = 0usize;
     while k + 1 < nz {
-        let far = side_of(values, ny, nz, Node::of(from.0 + k + 1), iso);
-        let first = Edge::of(Node::of(from.0 + k), 0);
+        let far = side_of(values, ny, nz, from.after(k + 1), iso);
+        let first = Edge::of(from.after(k), 0);
         let got = write_cell(
             vertices,
             faces,
@@ -209,7 +211,7 @@ fn write_cells(
             iso,
             first,
             near + 16 * far,
-            Totals {
+            MeshSize {
                 vertices: placed,
                 faces: written,
             },
@@ -221,7 +223,7 @@ fn write_cells(
         near = far;
         k += 1;
     }
-    Totals {
+    MeshSize {
         vertices: placed,
         faces: written,
     }
@@ -236,11 +238,11 @@ fn write_line(
     lattice: Lattice,
     iso: f32,
     from: Node,
-    had: Totals,
+    had: MeshSize,
     offsets: &[usize; 12],
     triangles: &[i8; 4096],
-) -> Totals
-    requires { ⌜ CellsInside (now values) (now table) lattice (from .0) (countZ lattice + countZ lattice) × RoomFor (now table) (edgePoint (now values) lattice iso) (now vertices) (now faces) had (lineFaces (now values) (countY lattice) (countZ lattice) iso (from .0) (countZ lattice - 1)) × (now offsets ≡ edgeOffsets (countY lattice) (countZ lattice)) × (now triangles ≡ flatTable) ⌝ }
+) -> MeshSize
+    requires { ⌜ CellsInside (now values) (now table) lattice (from .0) × RoomFor (now table) (edgePoint (now values) lattice iso) (now vertices) (now faces) had (lineFaces (now values) (countY lattice) (countZ lattice) iso (from .0) (countZ lattice - 1)) × (now offsets ≡ edgeOffsets (countY lattice) (countZ lattice)) × (now triangles ≡ flatTable) ⌝ }
     ensures { λ r. ⌜ Written (now (table .entry)) (edgePoint (now (values .entry)) lattice iso) (now (vertices .entry)) (now (vertices .exit)) (now (faces .entry)) (now (faces .exit)) had r (lineFaces (now (values .entry)) (countY lattice) (countZ lattice) iso (from .0) (countZ lattice - 1)) ⌝ }
 {
     if is_plain(values, lattice.counts[1], lattice.counts[2], from, iso) {
@@ -260,7 +262,7 @@ fn write_line(
     )
 }
 
-// The lines of a plane from a node on, along the middle axis.
+// The lines of plane i, along the middle axis.
 fn write_plane(
     vertices: &mut [f32],
     faces: &mut [u32],
@@ -268,16 +270,23 @@ fn write_plane(
     table: &[u32],
     lattice: Lattice,
     iso: f32,
-    from: Node,
-    had: Totals,
+    i: usize,
+    had: MeshSize,
     offsets: &[usize; 12],
     triangles: &[i8; 4096],
-) -> Totals
-    requires { ⌜ CellsInside (now values) (now table) lattice (from .0) (countY lattice * countZ lattice) × RoomFor (now table) (edgePoint (now values) lattice iso) (now vertices) (now faces) had (planeFaces (now values) (countY lattice) (countZ lattice) iso (from .0) (countY lattice - 1)) × (now offsets ≡ edgeOffsets (countY lattice) (countZ lattice)) × (now triangles ≡ flatTable) ⌝ }
-    ensures { λ r. ⌜ Written (now (table .entry)) (edgePoint (now (values .entry)) lattice iso) (now (vertices .entry)) (now (vertices .exit)) (now (faces .entry)) (now (faces .exit)) had r (planeFaces (now (values .entry)) (countY lattice) (countZ lattice) iso (from .0) (countY lattice - 1)) ⌝ }
+) -> MeshSize
+    requires { ⌜ Numberable (now values) (now table) lattice
+        × (i + 1 < countX lattice)
+        × RoomFor (now table) (edgePoint (now values) lattice iso) (now vertices) (now faces) had
+        (planeFaces (now values) (countY lattice) (countZ lattice) iso i (countY lattice - 1))
+        × (now offsets ≡ edgeOffsets (countY lattice) (countZ lattice))
+        × (now triangles ≡ flatTable) ⌝ }
+    ensures { λ r.
+        ⌜ Written (now (table .entry)) (edgePoint (now (values .entry)) lattice iso)
+        (now (vertices .entry)) (now (vertices .exit)) (now (faces .entry)) (now (faces .exit)) had r
+        (planeFaces (now (values .entry)) (countY lattice) (countZ lattice) iso i (countY lattice - 1)) ⌝ }
 {
     let ny = lattice.counts[1];
-    let nz = lattice.counts[2];
     let mut placed = had.vertices;
     let mut written = had.faces;
     let mut j = 0usize;
@@ -289,8 +298,8 @@ fn write_plane(
             table,
             lattice,
             iso,
-            Node::of(from.0 + j * nz),
-            Totals {
+            lattice.line_start(i, j),
+            MeshSize {
                 vertices: placed,
                 faces: written,
             },
@@ -301,7 +310,7 @@ fn write_plane(
         written = got.faces;
         j += 1;
     }
-    Totals {
+    MeshSize {
         vertices: placed,
         faces: written,
     }
@@ -317,12 +326,18 @@ fn write_planes(
     iso: f32,
     offsets: &[usize; 12],
     triangles: &[i8; 4096],
-) -> Totals
-    requires { ⌜ CellsInside (now values) (now table) lattice 0 0 × (length (now values) ≡ countX lattice * countY lattice * countZ lattice) × RoomFor (now table) (edgePoint (now values) lattice iso) (now vertices) (now faces) none (blockFaces (now values) (countY lattice) (countZ lattice) iso (countX lattice - 1)) × (now offsets ≡ edgeOffsets (countY lattice) (countZ lattice)) × (now triangles ≡ flatTable) ⌝ }
-    ensures { λ r. ⌜ Written (now (table .entry)) (edgePoint (now (values .entry)) lattice iso) (now (vertices .entry)) (now (vertices .exit)) (now (faces .entry)) (now (faces .exit)) none r (blockFaces (now (values .entry)) (countY lattice) (countZ lattice) iso (countX lattice - 1)) ⌝ }
+) -> MeshSize
+    requires { ⌜ Numberable (now values) (now table) lattice
+        × RoomFor (now table) (edgePoint (now values) lattice iso) (now vertices) (now faces) none
+        (blockFaces (now values) (countY lattice) (countZ lattice) iso (countX lattice - 1))
+        × (now offsets ≡ edgeOffsets (countY lattice) (countZ lattice))
+        × (now triangles ≡ flatTable) ⌝ }
+    ensures { λ r.
+        ⌜ Written (now (table .entry)) (edgePoint (now (values .entry)) lattice iso)
+        (now (vertices .entry)) (now (vertices .exit)) (now (faces .entry)) (now (faces .exit)) none r
+        (blockFaces (now (values .entry)) (countY lattice) (countZ lattice) iso (countX lattice - 1)) ⌝ }
 {
     let nx = lattice.counts[0];
-    let plane = lattice.counts[1] * lattice.counts[2];
     let mut placed = 0usize;
     let mut written = 0usize;
     let mut i = 0usize;
@@ -334,8 +349,8 @@ fn write_planes(
             table,
             lattice,
             iso,
-            Node::of(i * plane),
-            Totals {
+            i,
+            MeshSize {
                 vertices: placed,
                 faces: written,
             },
@@ -346,7 +361,7 @@ fn write_planes(
         written = got.faces;
         i += 1;
     }
-    Totals {
+    MeshSize {
         vertices: placed,
         faces: written,
     }

@@ -11,10 +11,10 @@ ghost use Rattle.grid.specs.Grid.{Counts};
 ghost use Rattle.cells.specs.Extraction.{countX, countY, countZ};
 ghost use Rattle.numbering.specs.FirstPass.{Numberable, Counted};
 ghost use Rattle.extract.specs.SecondPass.{Writable};
-use extract::Totals;
 use grid::Lattice;
 use libc::STDIN_FILENO;
 use libc::STDOUT_FILENO;
+use meshes::MeshSize;
 use replay::read_decimal;
 use replay::read_hex;
 use words::read_header;
@@ -136,7 +136,7 @@ fn replay_writing(
     iso: f32,
     values: &[f32],
     table: &[u32],
-    totals: Totals,
+    totals: MeshSize,
     grid: u64,
 ) -> Compared
     requires { ⌜ (at ≤ length (now text)) × Numberable (now values) (now table) lattice × Counted (now values) (now table) lattice iso totals × (totals .vertices ≤ 256) × (totals .faces ≤ 256) ⌝ }
@@ -160,7 +160,7 @@ fn replay_writing(
 }
 
 // Whether V or F differs from the list's.
-fn miscounted(text: &[u8], at: usize, totals: Totals, grid: u64) -> Compared
+fn miscounted(text: &[u8], at: usize, totals: MeshSize, grid: u64) -> Compared
     requires { ⌜ at ≤ length (now text) ⌝ }
     ensures { λ r. ⌜ (at ≤ r .next) × (r .next ≤ length (now (text .entry))) × (r .differ ≤ 1) ⌝ }
 {

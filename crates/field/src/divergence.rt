@@ -37,7 +37,7 @@ fn inner_row(b: &mut [f32], x: &[f32], y: &[f32], z: &[f32], first: Node, h: f32
     b[0] = 0.0;
     let mut k = 1usize;
     while k < n - 1 {
-        b[k] = inner(x, y, z, Node::of(first.0 + k), n, h);
+        b[k] = inner(x, y, z, first.after(k), n, h);
         k += 1;
     }
     b[k] = 0.0;
@@ -66,7 +66,15 @@ pub fn divergence(g: Grid, x: &[f32], y: &[f32], z: &[f32], b: &mut [f32])
     while row < n * n {
         let a = row * n;
         let e = a + n;
-        any_row(&mut b[a..e], x, y, z, Node::of(a), h, g.boundary_row(row));
+        any_row(
+            &mut b[a..e],
+            x,
+            y,
+            z,
+            g.row_start(row),
+            h,
+            g.boundary_row(row),
+        );
         row += 1;
     }
 }

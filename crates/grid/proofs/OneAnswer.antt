@@ -20,6 +20,9 @@ by-vertex e = λ i. record { 0 = e i }
 pub lattice-node : OneOutcome fn.Lattice.node.ended fn.Lattice.node.Reads.Post
 lattice-node κs args o o′ p q = by-node (same p q) & refl
 
+pub lattice-line-start : OneOutcome fn.Lattice.line_start.ended fn.Lattice.line_start.Reads.Post
+lattice-line-start κs args o o′ p q = by-node (same p q) & refl
+
 pub lattice-coords : OneOutcome fn.Lattice.coords.ended fn.Lattice.coords.Reads.Post
 lattice-coords κs args o o′ p q = same p q & refl
 
@@ -36,6 +39,9 @@ grid-node κs args o o′ p q = by-node (same p q) & refl
 
 pub grid-coords : OneOutcome fn.Grid.coords.ended fn.Grid.coords.Reads.Post
 grid-coords κs args o o′ p q = same p q & refl
+
+pub grid-row-start : OneOutcome fn.Grid.row_start.ended fn.Grid.row_start.Reads.Post
+grid-row-start κs args o o′ p q = by-node (same p q) & refl
 
 pub grid-is-boundary : OneOutcome fn.Grid.is_boundary.ended fn.Grid.is_boundary.Reads.Post
 grid-is-boundary κs args o o′ p q = same p q & refl
@@ -62,6 +68,9 @@ node-of κs args o o′ p q = by-node (same p q) & refl
 
 pub node-place : OneOutcome fn.Node.place.ended fn.Node.place.Reads.Post
 node-place κs args o o′ p q = same p q & refl
+
+pub node-after : OneOutcome fn.Node.after.ended fn.Node.after.Reads.Post
+node-after κs args o o′ p q = by-node (same p q) & refl
 
 pub edge-of : OneOutcome fn.Edge.of.ended fn.Edge.of.Reads.Post
 edge-of κs args o o′ p q = by-edge (same p q) & refl

@@ -56,6 +56,17 @@ digitK nz q = q % nz
 abbrev pub coordsOf : (ny nz q : ℕ) → List ℕ
 coordsOf ny nz q = digitI ny nz q ∷ digitJ ny nz q ∷ digitK nz q ∷ []
 
+-- where nodes begin that stand one after the other along the last axis: row r = i·n+j of the cube
+abbrev pub rowStart : (n r : ℕ) → ℕ
+rowStart n r = r * n
+
+-- plane i, of ny lines, and its line j, of nz nodes
+abbrev pub planeStart : (ny nz i : ℕ) → ℕ
+planeStart ny nz i = i * (ny * nz)
+
+abbrev pub lineStart : (ny nz i j : ℕ) → ℕ
+lineStart ny nz i j = planeStart ny nz i + j * nz
+
 -- the node that the edge e goes from, and the axis along which it goes
 abbrev pub nodeOf : (e : ℕ) → ℕ
 nodeOf e = e / 3

@@ -1,14 +1,14 @@
 -- Numbers and positions undo each other and stay in range. A node's number has its position as digits, to the bases ny and nz, and an edge's number has its axis as
 -- the last digit to base 3. So they are one to one: said without the undoing, that is `node-unique` and `edge-unique` in Crossings of the crate `closed`. Assumes nothing.
-use mathlib.Core.Path.{_≡_, ap, _∙_}
+use mathlib.Core.Path.{_≡_, refl, ap, _∙_}
 use mathlib.Core.List.{List, [], _∷_}
 use Prim.Native.Nat.{ℕ, _+_, _*_, _/_, _%_, _<_}
-use native.Mathlib.Nat.{add-assoc, add-mul, one-mul, div-add-mod'}
+use native.Mathlib.Nat.{add-assoc, add-mul, mul-assoc, one-mul, div-add-mod'}
 use native.Mathlib.Omega.{arith}
 use lib.Arith.{digits-div, digits-mod}
 use Rattle.closed.specs.Grid.{node, edge}
 use Rattle.closed.specs.Crossings.{node-lt}
-use Rattle.grid.specs.Grid.{Position, nodeAt, coordsOf, nodeOf, axisOf}
+use Rattle.grid.specs.Grid.{Position, nodeAt, coordsOf, rowStart, lineStart, nodeOf, axisOf}
 use Rattle.grid.specs.Rows.{row-of}
 
 -- ---- nodes
@@ -29,6 +29,15 @@ coords-below nx ny nz h =
     let row = row-of (nx * ny) nz h in
     let plane = row-of nx ny (row .0) in
     record { i = plane .0; j = plane .1; k = row .1 }
+
+-- a node is found from the start of its line, and in the cube from the start of its row
+pub line-node : (ny nz i j k : ℕ) → node ny nz i j k ≡ lineStart ny nz i j + k
+unfolding node
+line-node ny nz i j k = omega (arith, add-mul (i * ny) j nz, mul-assoc i ny nz)
+
+pub row-node : (n i j k : ℕ) → node n n i j k ≡ rowStart n (i * n + j) + k
+unfolding node
+row-node n i j k = refl
 
 -- one step along an axis is ny * nz, nz or 1 in the number
 pub node-next : (ny nz i j k : ℕ)

@@ -2,15 +2,16 @@
 -- rows of a cube takes m = n * n. An element's row and its place there are its digits to base n: `digits-div`, `digits-mod` and `digits-lt` of lib.Arith. Assumes nothing.
 use mathlib.Core.Path.{_≡_, refl, subst}
 use mathlib.Core.Bool.{Bool, true, false, _||_, true≢false}
-use mathlib.Core.List.{[], _∷_}
+use mathlib.Core.List.{List, [], _∷_}
 use Prim.Native.Nat.{ℕ, zero, suc, _+_, _-_, _*_, _/_, _%_, _<_, _≤_}
-use native.Mathlib.Nat.{not-suc-le-zero, mul-zero, suc-mul, add-mul, one-mul, mul-comm, mul-le-mul, mul-le-mul-right, mod-lt, div-lt-iff-lt-mul, div-mul-le-self, lt-mul-div-succ, le-mul-of-pos-right, div-add-mod'}
+use native.Mathlib.Nat.{not-suc-le-zero, mul-zero, suc-mul, add-mul, one-mul, mul-comm, mul-assoc, mul-le-mul, mul-le-mul-right, mod-lt, div-lt-iff-lt-mul, div-mul-le-self, lt-mul-div-succ, le-mul-of-pos-right, div-add-mod'}
 use native.Mathlib.Omega.{arith}
 use borrow.Author.Tests.{eqb-false, eq-eqb, ne-eqb}
 use lib.Arith.{digits-div, digits-mod}
 use lib.Dec.{eqb}
+use lib.ListN.{getD}
 use Rattle.closed.specs.Grid.{node}
-use Rattle.grid.specs.Grid.{Sides, Counts, atEnd, onBoundary, boundaryNode, boundaryRow}
+use Rattle.grid.specs.Grid.{Sides, Counts, lineStart, atEnd, onBoundary, boundaryNode, boundaryRow}
 
 -- ---- m rows of n elements
 
@@ -44,6 +45,28 @@ cube-counts h = record { two-x = h .two; two-y = h .two; two-z = h .two; most = 
 -- a row is no longer than a plane
 pub row-plane : {n : ℕ} → 0 < n → n ≤ n * n
 row-plane {n} h = le-mul-of-pos-right n h
+
+-- ---- the lines of a Lattice
+
+-- there are no more planes, and no more lines to a plane, than nodes
+pub counts-few : {c : List ℕ} → Counts c → (getD c 0 0 ≤ 16777216) × (getD c 1 0 ≤ 16777216)
+counts-few {c} h =
+    let nx = getD c 0 0 in
+    let ny = getD c 1 0 in
+    let nz = getD c 2 0 in
+    let one : 1 ≤ nx = omega (arith, h .two-x) in
+    let row : 0 < nz = omega (arith, h .two-z) in
+    let lines : ny ≤ ny * nz = le-mul-of-pos-right ny row in
+    let plane : 0 < ny * nz = omega (arith, h .two-y, lines) in
+    let planes : nx ≤ nx * (ny * nz) = le-mul-of-pos-right nx plane in
+    (omega (arith, planes, mul-assoc nx ny nz, h .most), omega (arith, lines, mul-le-mul-right (ny * nz) one, one-mul (ny * nz), mul-assoc nx ny nz, h .most))
+
+-- a line that is neither in the last plane nor the last of its plane has a next line, and both have theirs in the next plane
+pub line-inside : {nx ny : ℕ} (nz i j : ℕ) → i + 1 < nx → j + 1 < ny → lineStart ny nz i j + ny * nz + (nz + nz) ≤ nx * ny * nz
+line-inside {nx} {ny} nz i j hi hj =
+    let planes : i + 2 ≤ nx = omega arith in
+    let lines : j + 2 ≤ ny = omega arith in
+    omega (arith, mul-le-mul-right (ny * nz) planes, add-mul i 2 (ny * nz), mul-le-mul-right nz lines, add-mul j 2 nz, mul-assoc nx ny nz)
 
 -- ---- the boundary, row by row
 

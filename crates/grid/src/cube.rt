@@ -2,7 +2,7 @@
 ghost use mathlib.Core.Path.{_≡_};
 ghost use Prim.Native.Nat.{_*_, _<_, _≤_};
 ghost use lib.ListN.{getD};
-ghost use Rattle.grid.specs.Grid.{Sides, Counts, Position, gridOf, nodeAt, coordsOf, atEnd, onBoundary, boundaryRow, worldOf, latticeOf, allNodes};
+ghost use Rattle.grid.specs.Grid.{Sides, Counts, Position, gridOf, nodeAt, coordsOf, rowStart, atEnd, onBoundary, boundaryRow, worldOf, latticeOf, allNodes};
 use crate::Grid;
 use crate::Lattice;
 use crate::Node;
@@ -58,6 +58,15 @@ impl Grid {
         ensures { λ r. ⌜ r ≡ coordsOf (self .nodes) (self .nodes) (node .0) ⌝ }
     {
         coords_of(self.nodes, self.nodes, node)
+    }
+
+    // The first node of row i·n+j, whose nodes stand one after the other along the last axis.
+    pub fn row_start(self, row: usize) -> Node
+        requires { ⌜ Sides (self .nodes) ⌝ }
+        requires { ⌜ row < self .nodes * self .nodes ⌝ }
+        ensures { λ r. ⌜ r .0 ≡ rowStart (self .nodes) row ⌝ }
+    {
+        Node::of(row * self.nodes)
     }
 
     // Whether a position lies on one of the cube's six sides.

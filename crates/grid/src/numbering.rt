@@ -1,6 +1,6 @@
 // Node and edge numbers, made and undone. The Rust's `index`, `coords` and the closure `edge_id`, whose numbers are all `usize`.
 ghost use mathlib.Core.Path.{_≡_};
-ghost use Prim.Native.Nat.{_<_};
+ghost use Prim.Native.Nat.{_+_, _^_, _<_};
 ghost use Rattle.closed.specs.Grid.{edge};
 ghost use Rattle.grid.specs.Grid.{nodeAt, coordsOf, nodeOf, axisOf};
 use crate::Edge;
@@ -37,6 +37,14 @@ impl Node {
         ensures { λ r. ⌜ r ≡ self .0 ⌝ }
     {
         self.0
+    }
+
+    // The node whose number is greater by so much: by k for the node k further along a row, by a row for the same node of the next.
+    pub fn after(self, by: usize) -> Node
+        requires { ⌜ self .0 + by < 2 ^ 64 ⌝ }
+        ensures { λ r. ⌜ r .0 ≡ self .0 + by ⌝ }
+    {
+        Node(self.0 + by)
     }
 }
 

@@ -25,11 +25,10 @@ fn inner_row(x: &[f32], y: &mut [f32], first: Node, plane: usize)
     ensures { λ _. ⌜ now (y .exit) ≡ tabulate (length (now (y .entry))) (innerRowAt plane (length (now (y .entry))) (now (x .entry)) (first .0)) ⌝ }
 {
     let n = y.len();
-    let q = first.place();
     y[0] = 0.0;
     let mut k = 1usize;
     while k < n - 1 {
-        y[k] = stencil(x, Node::of(q + k), plane, n);
+        y[k] = stencil(x, first.after(k), plane, n);
         k += 1;
     }
     y[k] = 0.0;
@@ -45,7 +44,7 @@ fn apply_row(g: Grid, x: &[f32], y: &mut [f32], row: usize)
     if g.boundary_row(row) {
         lists::clear_f32(y);
     } else {
-        inner_row(x, y, Node::of(row * n), n * n);
+        inner_row(x, y, g.row_start(row), n * n);
     }
 }
 

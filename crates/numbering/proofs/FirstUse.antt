@@ -17,7 +17,7 @@ use Rattle.grid.specs.declared.Lattice.{Lattice}
 use Rattle.cells.specs.Extraction.{countX, countY, countZ, edgeFaces, vertexEdges}
 use Rattle.cells.specs.CellWords.{blockFaces}
 use Rattle.numbering.specs.FirstPass.{Marks, markAll, none, Numbered, Counted}
-use Rattle.numbering.specs.declared.Totals.{Totals}
+use Rattle.meshes.specs.declared.MeshSize.{MeshSize}
 use Rattle.cells.specs.Cells.{edges-below, block-faces}
 use Rattle.numbering.proofs.Marking.{noted, marked}
 
@@ -31,7 +31,7 @@ module _ (values : List Float) (l : Lattice) (iso : Float) (counts : Counts (l .
       ap (λ (s : Marks). markAll s (corners (edgeFaces values l iso))) (zeros-noted m)
       ∙ marked m [] (corners (edgeFaces values l iso)) (subst (λ (n : ℕ). All (λ e. e < n) (corners (edgeFaces values l iso))) (sym e) (edges-below values l iso counts))
 
-  pub counted-all : (m : ℕ) (table : List ℕ) (r : Totals) → m ≡ 3 * (countX l * countY l * countZ l)
+  pub counted-all : (m : ℕ) (table : List ℕ) (r : MeshSize) → m ≡ 3 * (countX l * countY l * countZ l)
       → Numbered (replicate m 0) table none r (blockFaces values (countY l) (countZ l) iso (countX l - 1)) → Counted values table l iso r
   counted-all m table r e n =
       let s : _≡_ {A = Marks} (table, r .vertices) (noted m (vertexEdges values l iso)) =

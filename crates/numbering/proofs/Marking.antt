@@ -19,7 +19,7 @@ use Rattle.closed.specs.Counting.{same?, cells-one-more}
 use Rattle.closed.specs.Turning.{corners-append, length-corners}
 use Rattle.closed.specs.Renumber.{in-or-not, note-old, slot-in, slot-out, slot-note-new, slot-note-other, length-note-new}
 use Rattle.numbering.specs.FirstPass.{Marks, mark1, markAll, Numbered, Few}
-use Rattle.numbering.specs.declared.Totals.{Totals}
+use Rattle.meshes.specs.declared.MeshSize.{MeshSize}
 
 -- ---- the edges noted so far, as the pass holds them
 
@@ -113,14 +113,14 @@ marks-more s (e ∷ es) = omega (arith, marks-more (mark1 s e) es, mark-more s e
 
 -- ---- the faces of a part of the cells, and of the next part
 
-pub numbered-as : {t u : List ℕ} {a b : Totals} {fs gs : List Face} → fs ≡ gs → Numbered t u a b fs → Numbered t u a b gs
+pub numbered-as : {t u : List ℕ} {a b : MeshSize} {fs gs : List Face} → fs ≡ gs → Numbered t u a b fs → Numbered t u a b gs
 numbered-as {t} {u} {a} {b} e x = subst (Numbered t u a b) e x
 
-pub numbered-none : {t : List ℕ} {had : Totals} → Numbered t t had had []
+pub numbered-none : {t : List ℕ} {had : MeshSize} → Numbered t t had had []
 unfolding markAll
 numbered-none = record { marks = refl; counted = omega arith }
 
-pub numbered-append : {t u v : List ℕ} {a b c : Totals} {fs gs : List Face} → Numbered t u a b fs → Numbered u v b c gs → Numbered t v a c (fs ++ gs)
+pub numbered-append : {t u v : List ℕ} {a b c : MeshSize} {fs gs : List Face} → Numbered t u a b fs → Numbered u v b c gs → Numbered t v a c (fs ++ gs)
 numbered-append {t} {u} {v} {a} {b} {c} {fs} {gs} x y =
     record {
       marks = y .marks
@@ -130,28 +130,28 @@ numbered-append {t} {u} {v} {a} {b} {c} {fs} {gs} x y =
       counted = omega (arith, x .counted, y .counted, length-append fs gs);
     }
 
-pub numbered-kept : {t u : List ℕ} {a b : Totals} {fs : List Face} → Numbered t u a b fs → length u ≡ length t
+pub numbered-kept : {t u : List ℕ} {a b : MeshSize} {fs : List Face} → Numbered t u a b fs → length u ≡ length t
 numbered-kept {t} {u} {a} {b} {fs} x = ap (λ (s : Marks). length (s .0)) (x .marks) ∙ marks-kept (t, a .vertices) (corners fs)
 
-pub numbered-more : {t u : List ℕ} {a b : Totals} {fs : List Face} → Numbered t u a b fs → b .vertices ≤ a .vertices + 3 * length fs
+pub numbered-more : {t u : List ℕ} {a b : MeshSize} {fs : List Face} → Numbered t u a b fs → b .vertices ≤ a .vertices + 3 * length fs
 numbered-more {t} {u} {a} {b} {fs} x =
     omega (arith, ap (λ (s : Marks). s .1) (x .marks), marks-more (t, a .vertices) (corners fs), length-corners fs)
 
 -- ---- the cells of a line, of a plane and of all, one more at a time
 
 module _ (f : ℕ → List Face) where
-  pub numbered-start : {t : List ℕ} {had : Totals} → Numbered t t had had (cells 0 f)
+  pub numbered-start : {t : List ℕ} {had : MeshSize} → Numbered t t had had (cells 0 f)
   unfolding cells
   numbered-start = numbered-none
 
-  pub numbered-more-cells : {t u v : List ℕ} {a b c : Totals} (k : ℕ) → Numbered t u a b (cells k f) → Numbered u v b c (f k) → Numbered t v a c (cells (k + 1) f)
+  pub numbered-more-cells : {t u v : List ℕ} {a b c : MeshSize} (k : ℕ) → Numbered t u a b (cells k f) → Numbered u v b c (f k) → Numbered t v a c (cells (k + 1) f)
   numbered-more-cells k x y = numbered-as (sym (cells-one-more k f)) (numbered-append x y)
 
-  pub numbered-all : {t u : List ℕ} {a b : Totals} {k n : ℕ} → k ≡ n → Numbered t u a b (cells k f) → Numbered t u a b (cells n f)
+  pub numbered-all : {t u : List ℕ} {a b : MeshSize} {k n : ℕ} → k ≡ n → Numbered t u a b (cells k f) → Numbered t u a b (cells n f)
   numbered-all e x = numbered-as (ap (λ (m : ℕ). cells m f) e) x
 
-pub few-next : {t u : List ℕ} {a b : Totals} {fs : List Face} {m n : ℕ} → Numbered t u a b fs → length fs ≤ 5 → Few a m → m + 1 ≤ n → Few b n
+pub few-next : {t u : List ℕ} {a b : MeshSize} {fs : List Face} {m n : ℕ} → Numbered t u a b fs → length fs ≤ 5 → Few a m → m + 1 ≤ n → Few b n
 few-next x l few h = record { vertices = omega (arith, numbered-more x, few .vertices); faces = omega (arith, x .counted, few .faces) }
 
-pub few-later : {a : Totals} {m n : ℕ} → Few a m → m ≤ n → Few a n
+pub few-later : {a : MeshSize} {m n : ℕ} → Few a m → m ≤ n → Few a n
 few-later few h = record { vertices = omega (arith, few .vertices); faces = omega (arith, few .faces) }

@@ -1,11 +1,8 @@
 -- No second outcome fits: each public function, in the order of the sources. Assumes nothing.
-use mathlib.Core.Path.{_≡_, refl}
+use mathlib.Core.Path.{refl}
 use Rattle.lists.specs.OneAnswer.{OneOutcome, same, _&_}
-use Rattle.numbering.specs.declared.Totals.{Totals}
+use Rattle.meshes.proofs.OneAnswer.{by-counts}
 use Rattle.numbering.proofs as fn
-
-by-counts : {a b : Totals} → a .vertices ≡ b .vertices → a .faces ≡ b .faces → a ≡ b
-by-counts vertices faces = λ i. record { vertices = vertices i; faces = faces i }
 
 -- ---- number.rt
 

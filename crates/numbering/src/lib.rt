@@ -3,9 +3,3 @@
 mod number;
 
 pub use number::number_edges;
-
-// How many vertices and how many faces there are.
-pub struct Totals {
-    pub vertices: usize,
-    pub faces: usize,
-}

@@ -5,9 +5,10 @@ ghost use Prim.Native.Nat.{_+_, _-_, _*_, _<_, _≤_};
 ghost use lib.ListN.{length, getD};
 ghost use Rattle.closed.specs.Faces.{faceOf, mapFace, corners};
 ghost use Rattle.closed.specs.Rows.{flatTable, emitted};
+ghost use Rattle.grid.specs.Grid.{planeStart};
+ghost use Rattle.cells.specs.Extraction.{countX, countY, countZ};
 ghost use Rattle.cells.specs.CellWords.{rowFaces, caseAt, lineFaces, planeFaces, blockFaces, edgeOffsets, EdgesIn, CubeFace};
-ghost use Rattle.numbering.specs.FirstPass.{mark1, markAll, Few, none, Numbered, Line, Plane, Block, Numberable, Counted};
-use crate::Totals;
+ghost use Rattle.numbering.specs.FirstPass.{mark1, markAll, Few, none, Numbered, Line, Plane, Numberable, Counted};
 use cells::cell_edge;
 use cells::edge_offsets;
 use cells::is_plain;
@@ -15,6 +16,7 @@ use cells::side_of;
 use grid::Edge;
 use grid::Lattice;
 use grid::Node;
+use meshes::MeshSize;
 
 // An edge gets the next number unless it has one: the table holds one more than the vertex, 0 where there is none. The answer is how many have one.
 fn mark(table: &mut [u32], edge: Edge, count: usize) -> usize
@@ -73,10 +75,10 @@ fn number_cell(
     table: &mut [u32],
     first: Edge,
     case: usize,
-    had: Totals,
+    had: MeshSize,
     offsets: &[usize; 12],
     triangles: &[i8; 4096],
-) -> Totals
+) -> MeshSize
     requires { ⌜ EdgesIn (now offsets) (first .0) (length (now table)) × (case < 256) × (had .vertices ≤ 4294960000) × (had .faces ≤ 4294960000) × (now triangles ≡ flatTable) ⌝ }
     ensures { λ r. ⌜ Numbered (now (table .entry)) (now (table .exit)) had r (rowFaces (now (offsets .entry)) (first .0) case) ⌝ }
 {
@@ -88,7 +90,7 @@ fn number_cell(
     }
     let faces = cubes::row_faces(triangles, case);
     let vertices = mark_row(table, first, case, faces, had.vertices, offsets, triangles);
-    Totals {
+    MeshSize {
         vertices,
         faces: had.faces + faces,
     }
@@ -102,10 +104,10 @@ fn number_cells(
     nz: usize,
     from: Node,
     iso: f32,
-    had: Totals,
+    had: MeshSize,
     offsets: &[usize; 12],
     triangles: &[i8; 4096],
-) -> Totals
+) -> MeshSize
     requires { ⌜ Line (now values) (now table) ny nz (from .0) had × (now offsets ≡ edgeOffsets ny nz) × (now triangles ≡ flatTable) ⌝ }
     ensures { λ r. ⌜ Numbered (now (table .entry)) (now (table .exit)) had r (lineFaces (now (values .entry)) ny nz iso (from .0) (nz - 1)) × Few r (from .0 + nz) ⌝ }
 {
@@ -114,13 +116,13 @@ fn number_cells(
     let mut faces = had.faces;
     let mut k = 0usize;
     while k + 1 < nz {
-        let far = side_of(values, ny, nz, Node::of(from.0 + k + 1), iso);
-        let first = Edge::of(Node::of(from.0 + k), 0);
+        let far = side_of(values, ny, nz, from.after(k + 1), iso);
+        let first = Edge::of(from.after(k), 0);
         let got = number_cell(
             table,
             first,
             near + 16 * far,
-            Totals { vertices, faces },
+            MeshSize { vertices, faces },
             offsets,
             triangles,
         );
@@ -129,7 +131,7 @@ fn number_cells(
         near = far;
         k += 1;
     }
-    Totals { vertices, faces }
+    MeshSize { vertices, faces }
 }
 
 // The same. A plain line has no face, and is passed over.
@@ -140,10 +142,10 @@ fn number_line(
     nz: usize,
     from: Node,
     iso: f32,
-    had: Totals,
+    had: MeshSize,
     offsets: &[usize; 12],
     triangles: &[i8; 4096],
-) -> Totals
+) -> MeshSize
     requires { ⌜ Line (now values) (now table) ny nz (from .0) had × (now offsets ≡ edgeOffsets ny nz) × (now triangles ≡ flatTable) ⌝ }
     ensures { λ r. ⌜ Numbered (now (table .entry)) (now (table .exit)) had r (lineFaces (now (values .entry)) ny nz iso (from .0) (nz - 1)) × Few r (from .0 + nz) ⌝ }
 {
@@ -153,21 +155,27 @@ fn number_line(
     number_cells(table, values, ny, nz, from, iso, had, offsets, triangles)
 }
 
-// The lines of a plane from a node on, along the middle axis.
+// The lines of plane i, along the middle axis.
 fn number_plane(
     table: &mut [u32],
     values: &[f32],
-    ny: usize,
-    nz: usize,
-    from: Node,
+    lattice: Lattice,
+    i: usize,
     iso: f32,
-    had: Totals,
+    had: MeshSize,
     offsets: &[usize; 12],
     triangles: &[i8; 4096],
-) -> Totals
-    requires { ⌜ Plane (now values) (now table) ny nz (from .0) had × (now offsets ≡ edgeOffsets ny nz) × (now triangles ≡ flatTable) ⌝ }
-    ensures { λ r. ⌜ Numbered (now (table .entry)) (now (table .exit)) had r (planeFaces (now (values .entry)) ny nz iso (from .0) (ny - 1)) × Few r (from .0 + ny * nz) ⌝ }
+) -> MeshSize
+    requires { ⌜ Plane (now values) (now table) lattice i had
+        × (now offsets ≡ edgeOffsets (countY lattice) (countZ lattice))
+        × (now triangles ≡ flatTable) ⌝ }
+    ensures { λ r.
+        ⌜ Numbered (now (table .entry)) (now (table .exit)) had r
+        (planeFaces (now (values .entry)) (countY lattice) (countZ lattice) iso i (countY lattice - 1))
+        × Few r (planeStart (countY lattice) (countZ lattice) (i + 1)) ⌝ }
 {
+    let ny = lattice.counts[1];
+    let nz = lattice.counts[2];
     let mut vertices = had.vertices;
     let mut faces = had.faces;
     let mut j = 0usize;
@@ -177,9 +185,9 @@ fn number_plane(
             values,
             ny,
             nz,
-            Node::of(from.0 + j * nz),
+            lattice.line_start(i, j),
             iso,
-            Totals { vertices, faces },
+            MeshSize { vertices, faces },
             offsets,
             triangles,
         );
@@ -187,23 +195,26 @@ fn number_plane(
         faces = got.faces;
         j += 1;
     }
-    Totals { vertices, faces }
+    MeshSize { vertices, faces }
 }
 
 // The planes, along the first axis.
 fn number_planes(
     table: &mut [u32],
     values: &[f32],
-    nx: usize,
-    ny: usize,
-    nz: usize,
+    lattice: Lattice,
     iso: f32,
     offsets: &[usize; 12],
     triangles: &[i8; 4096],
-) -> Totals
-    requires { ⌜ Block (now values) (now table) nx ny nz × (now offsets ≡ edgeOffsets ny nz) × (now triangles ≡ flatTable) ⌝ }
-    ensures { λ r. ⌜ Numbered (now (table .entry)) (now (table .exit)) none r (blockFaces (now (values .entry)) ny nz iso (nx - 1)) ⌝ }
+) -> MeshSize
+    requires { ⌜ Numberable (now values) (now table) lattice
+        × (now offsets ≡ edgeOffsets (countY lattice) (countZ lattice))
+        × (now triangles ≡ flatTable) ⌝ }
+    ensures { λ r.
+        ⌜ Numbered (now (table .entry)) (now (table .exit)) none r
+        (blockFaces (now (values .entry)) (countY lattice) (countZ lattice) iso (countX lattice - 1)) ⌝ }
 {
+    let nx = lattice.counts[0];
     let mut vertices = 0usize;
     let mut faces = 0usize;
     let mut i = 0usize;
@@ -211,11 +222,10 @@ fn number_planes(
         let got = number_plane(
             table,
             values,
-            ny,
-            nz,
-            Node::of(i * (ny * nz)),
+            lattice,
+            i,
             iso,
-            Totals { vertices, faces },
+            MeshSize { vertices, faces },
             offsets,
             triangles,
         );
@@ -223,25 +233,16 @@ fn number_planes(
         faces = got.faces;
         i += 1;
     }
-    Totals { vertices, faces }
+    MeshSize { vertices, faces }
 }
 
 // "A vertex is numbered at first use": the table of 3N elements, which may hold anything, is cleared and filled; the answer is V and F.
-pub fn number_edges(values: &[f32], lattice: Lattice, iso: f32, table: &mut [u32]) -> Totals
+pub fn number_edges(values: &[f32], lattice: Lattice, iso: f32, table: &mut [u32]) -> MeshSize
     requires { ⌜ Numberable (now values) (now table) lattice ⌝ }
     ensures { λ r. ⌜ Counted (now (values .entry)) (now (table .exit)) lattice iso r ⌝ }
 {
     let offsets = edge_offsets(lattice);
     let triangles = cubes::triangle_table();
     lists::clear_u32(table);
-    number_planes(
-        table,
-        values,
-        lattice.counts[0],
-        lattice.counts[1],
-        lattice.counts[2],
-        iso,
-        &offsets,
-        &triangles,
-    )
+    number_planes(table, values, lattice, iso, &offsets, &triangles)
 }

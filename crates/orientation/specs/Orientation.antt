@@ -1,10 +1,9 @@
--- Document 01, "Box, level, orientation, trim": the orientation of the faces, and what a mesh and a face's centre and normal are, which the trim needs too.
--- A mesh is two flat lists, three f32 a vertex and three vertex numbers a face; `faces` of the crate `closed` reads the second. Definitions only; assumes nothing.
-use mathlib.Core.Path.{_≡_}
+-- Document 01, "Box, level, orientation, trim": the orientation of the faces, and a face's centre and normal; the trim needs the centre too. What a mesh is
+-- stands in the crate `meshes`. Definitions only; assumes nothing.
 use mathlib.Core.Bool.{cond}
 use mathlib.Core.List.{List, [], _∷_, map, foldl}
-use Prim.Native.Nat.{ℕ, _+_, _*_, _/_, _<_}
-use lib.ListN.{length, getD, set}
+use Prim.Native.Nat.{ℕ}
+use lib.ListN.{length, set}
 use lib.Ieee.{Float, binary32, binary64, add, sub, mul, div, lt}
 use Rattle.lists.specs.Lists.{at}
 use Rattle.lists.specs.EveryNth.{strideFor, everyFrom}
@@ -13,40 +12,7 @@ use Rattle.numbers.specs.Arithmetic.{signed}
 use Rattle.closed.specs.Faces.{Face, face, turn}
 use Rattle.grid.specs.declared.Grid.{Grid}
 use Rattle.grid.specs.Grid.{sampled}
-
--- ---- a mesh in two flat lists
-
-abbrev pub vertexCount : List Float → ℕ
-vertexCount vertices = length vertices / 3
-
-abbrev pub faceCount : List ℕ → ℕ
-faceCount numbers = length numbers / 3
-
--- whole triples, and each number is that of a vertex
-pub record Meshed (vertices : List Float) (numbers : List ℕ) : Type 0 where
-  pub places : length vertices ≡ 3 * vertexCount vertices
-  pub triples : length numbers ≡ 3 * faceCount numbers
-  pub below : (k : ℕ) → k < length numbers → getD numbers k 0 < vertexCount vertices
-
--- the three numbers of face t; and the list with other numbers in their place
-abbrev pub cornersAt : List ℕ → ℕ → List ℕ
-cornersAt numbers t = getD numbers (3 * t) 0 ∷ getD numbers (3 * t + 1) 0 ∷ getD numbers (3 * t + 2) 0 ∷ []
-
-abbrev pub putFace : List ℕ → ℕ → List ℕ → List ℕ
-putFace numbers t f = set (set (set numbers (3 * t) (getD f 0 0)) (3 * t + 1) (getD f 1 0)) (3 * t + 2) (getD f 2 0)
-
--- each corner is one of so many vertices
-pub record Corners (count : ℕ) (f : List ℕ) : Type 0 where
-  pub first : getD f 0 0 < count
-  pub second : getD f 1 0 < count
-  pub third : getD f 2 0 < count
-
--- a coordinate of vertex v, and all three
-abbrev pub coordinate : List Float → ℕ → ℕ → Float
-coordinate vertices v axis = at vertices (3 * v + axis)
-
-abbrev pub vertexAt : List Float → ℕ → List Float
-vertexAt vertices v = coordinate vertices v 0 ∷ coordinate vertices v 1 ∷ coordinate vertices v 2 ∷ []
+use Rattle.meshes.specs.FlatMesh.{coordinate, vertexAt}
 
 -- ---- a face's centre and normal, in f32
 

@@ -11,8 +11,9 @@ use Rattle.closed.specs.Faces.{Face, face, Balanced, Apart, turn, corners, face
 use Rattle.closed.specs.Counting.{all-at}
 use Rattle.closed.specs.Turning.{balanced-turn, all-apart-turn, length-corners}
 use Rattle.grid.specs.declared.Grid.{Grid}
-use Rattle.orientation.specs.Orientation.{vertexCount, Meshed, agreementOf, orientedFaces}
-use Rattle.orientation.specs.FlatFaces.{meshed-faces, meshed-corners}
+use Rattle.meshes.specs.FlatMesh.{vertexCount, Meshed}
+use Rattle.orientation.specs.Orientation.{agreementOf, orientedFaces}
+use Rattle.meshes.specs.FlatFaces.{meshed-faces, meshed-corners}
 
 -- a turned face has the same corners
 all-turned : (P : ℕ → Type 0) (fs : List Face) → All P (corners fs) → All P (corners (map turn fs))

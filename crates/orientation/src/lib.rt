@@ -1,5 +1,5 @@
-// Document 01, "Box, level, orientation, trim": the orientation. The faces look where the field grows, as the points' normals do. Beside `orient` and `face_normal` of the
-// Rust's poisson.rs. Reading and writing a face, its centre and its normal are in `triangle`; the trim uses them too, and the box of the vertices `triple_at`.
+// Document 01, "Box, level, orientation, trim": the orientation. The faces look where the field grows, as the points' normals do. Beside `orient` and `face_normal`
+// of the Rust's poisson.rs. A face's centre, which the trim uses too, and its normal are in `triangle`.
 mod triangle;
 
 ghost use mathlib.Core.Path.{_≡_};
@@ -9,13 +9,13 @@ ghost use lib.ListN.{length};
 ghost use Rattle.lists.specs.EveryNth.{strideFor};
 ghost use Rattle.closed.specs.Faces as Flat;
 ghost use Rattle.grid.specs.Grid.{Sides, allNodes};
-ghost use Rattle.orientation.specs.Orientation.{vertexCount, faceCount, Meshed, Corners, gainAt, signAt, agreementOf, orientedFaces};
+ghost use Rattle.meshes.specs.FlatMesh.{vertexCount, faceCount, Meshed, Corners};
+ghost use Rattle.orientation.specs.Orientation.{gainAt, signAt, agreementOf, orientedFaces};
 use grid::Grid;
+use meshes::read_face;
+use meshes::write_face;
 pub use triangle::centre;
 use triangle::normal;
-pub use triangle::read_face;
-pub use triangle::triple_at;
-pub use triangle::write_face;
 
 // What the field gains along an axis, half a step to either side of a place.
 fn gain(g: Grid, values: &[f32], p: [f64; 3], axis: usize) -> f64

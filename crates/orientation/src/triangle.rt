@@ -1,48 +1,10 @@
-// One face of a flat mesh: its three vertex numbers by value, its centre and its normal.
+// A face's centre and normal. The face is its three vertex numbers by value.
 ghost use mathlib.Core.Path.{_≡_};
-ghost use mathlib.Core.List.{[], _∷_};
-ghost use Prim.Native.Nat.{_+_, _*_, _<_};
-ghost use lib.ListN.{length};
-ghost use Rattle.lists.specs.Lists.{at};
 ghost use Rattle.closed.specs.Faces.{faceOf};
-ghost use Rattle.orientation.specs.Orientation.{vertexCount, cornersAt, putFace, Corners, vertexAt, minus, cross, centreOf, normalOf};
+ghost use Rattle.meshes.specs.FlatMesh.{vertexCount, Corners};
+ghost use Rattle.orientation.specs.Orientation.{minus, cross, centreOf, normalOf};
 use grid::Vertex;
-
-// Face t, read whole.
-pub fn read_face(faces: &[u32], t: usize) -> [u32; 3]
-    requires { ⌜ 3 * t + 2 < length (now faces) ⌝ }
-    ensures { λ r. ⌜ r ≡ cornersAt (now (faces .entry)) t ⌝ }
-{
-    let k = 3 * t;
-    [faces[k], faces[k + 1], faces[k + 2]]
-}
-
-// And written back whole.
-pub fn write_face(faces: &mut [u32], t: usize, face: [u32; 3])
-    requires { ⌜ 3 * t + 2 < length (now faces) ⌝ }
-    ensures { λ _. ⌜ now (faces .exit) ≡ putFace (now (faces .entry)) t face ⌝ }
-{
-    let k = 3 * t;
-    faces[k] = face[0];
-    faces[k + 1] = face[1];
-    faces[k + 2] = face[2];
-}
-
-// The three numbers from place k of a slice on.
-pub fn triple_at(numbers: &[f32], k: usize) -> [f32; 3]
-    requires { ⌜ k + 2 < length (now numbers) ⌝ }
-    ensures { λ r. ⌜ r ≡ at (now (numbers .entry)) k ∷ at (now (numbers .entry)) (k + 1) ∷ at (now (numbers .entry)) (k + 2) ∷ [] ⌝ }
-{
-    [numbers[k], numbers[k + 1], numbers[k + 2]]
-}
-
-// The place of a vertex.
-fn vertex_at(vertices: &[f32], v: Vertex) -> [f32; 3]
-    requires { ⌜ v .0 < vertexCount (now vertices) ⌝ }
-    ensures { λ r. ⌜ r ≡ vertexAt (now (vertices .entry)) (v .0) ⌝ }
-{
-    triple_at(vertices, 3 * v.number() as usize)
-}
+use meshes::vertex_at;
 
 // The f32 centre: the corners' sum in their order, divided by 3.
 pub fn centre(vertices: &[f32], face: [u32; 3]) -> [f32; 3]

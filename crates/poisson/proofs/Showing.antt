@@ -13,7 +13,7 @@ use Rattle.settings.specs.declared.Settings.{Settings}
 use Rattle.settings.specs.declared.Answer.{Answer}
 use Rattle.settings.specs.declared.Verdict.{Verdict}
 use Rattle.settings.specs.Answers.{accepts, refused, answerUnder}
-use Rattle.orientation.specs.Orientation.{vertexCount}
+use Rattle.meshes.specs.FlatMesh.{vertexCount}
 use Rattle.scan.specs.Reconstruction.{acceptedAnswer, keptVertices, keptFaces, resultsUnder}
 use Rattle.poisson.specs.Inner.{Shown}
 

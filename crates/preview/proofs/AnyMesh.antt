@@ -31,9 +31,9 @@ use Rattle.settings.specs.declared.Verdict.the-variants.{Pass, PointSlice, NoPo
 use Rattle.settings.specs.Answers.{numberOf, accepts, refused}
 use Rattle.settings.specs.Refusals.{_when_, _then_, pointSliceVerdict, noPointsVerdict, depthVerdict, smoothingVerdict, anyShort, scratchVerdict}
 use Rattle.settings.specs.Refusals.{earlyVerdict, usableVerdict, extentVerdict, vertexRoomVerdict, faceRoomVerdict, meshVerdict}
-use Rattle.settings.specs.Passed.{accepted, depth-fits, Fit, ready}
+use Rattle.settings.specs.Passed.{accepted, number-under, depth-fits, Fit, ready}
 use Rattle.cells.specs.Extraction.{edgeFaces, vertexEdges}
-use Rattle.scan.specs.Reconstruction.{gridFor, extentFor, vertexTotal, faceTotal, keptFaces, acceptedAnswer, lateVerdict, verdictOf, measured, reconstructed}
+use Rattle.scan.specs.Reconstruction.{gridFor, extentFor, vertexTotal, faceTotal, keptFaces, acceptedAnswer, lateVerdict, verdictOf, reconstructed}
 use Rattle.preview.specs.Preview.{Previewed}
 
 -- ---- how many vertices and faces there can be
@@ -171,13 +171,8 @@ module _ (xs : List Float) (st : Settings) (lent : Lengths) (p : Previewed xs st
 
   -- the answer's number is the verdict's
   number-is : reconstructed xs st lent .answer .number ≡ numberOf (verdictOf xs st lent)
-  unfolding reconstructed measured acceptedAnswer
-  number-is = by-cases (accepts (verdictOf xs st lent)) refl
-    where
-      by-cases : (b : Bool) → accepts (verdictOf xs st lent) ≡ b
-          → cond b (acceptedAnswer (usables xs) st) (refused (verdictOf xs st lent)) .number ≡ numberOf (verdictOf xs st lent)
-      by-cases true e = sym (eqb-true (numberOf (verdictOf xs st lent)) 0 e)
-      by-cases false e = refl
+  unfolding reconstructed acceptedAnswer
+  number-is = number-under (verdictOf xs st lent) (acceptedAnswer (usables xs) st) refl
 
   pub told-to-6 : (r : Answer) → r ≡ reconstructed xs st lent .answer → r .number ≤ 6
   told-to-6 r e = omega (arith, ap (λ (a : Answer). a .number) e, number-is, verdict-small)

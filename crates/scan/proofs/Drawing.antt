@@ -18,7 +18,8 @@ use Rattle.settings.specs.declared.Settings.{Settings}
 use Rattle.cells.specs.Extraction.{countX, countY, countZ, vertexEdges, edgeFaces, extractedVertices, extractedFaces}
 use Rattle.numbering.specs.FirstPass.{Numberable, edgeTable}
 use Rattle.extract.specs.SecondPass.{Writable, Mesh}
-use Rattle.orientation.specs.Orientation.{vertexCount, Meshed, orientedFaces}
+use Rattle.meshes.specs.FlatMesh.{vertexCount, Meshed}
+use Rattle.orientation.specs.Orientation.{orientedFaces}
 use Rattle.orientation.specs.Orienting.{oriented-length, oriented-meshed}
 use Rattle.trim.specs.Trim.{TrimRoom, trimmedVertices, trimmedFaces}
 use Rattle.scan.specs.Reconstruction.{gridFor, latticeFor, fieldFor, levelFor, wholeVertices, wholeFaces, vertexTotal, faceTotal, keptVertices, keptFaces}

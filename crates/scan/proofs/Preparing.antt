@@ -14,7 +14,7 @@ use Rattle.search.specs.Spacing.{spacingOf}
 use Rattle.settings.specs.declared.Settings.{Settings}
 use Rattle.cells.specs.Extraction.{countX, countY, countZ}
 use Rattle.numbering.specs.FirstPass.{Counted}
-use Rattle.numbering.specs.declared.Totals.{Totals}
+use Rattle.meshes.specs.declared.MeshSize.{MeshSize}
 use Rattle.surface.specs.Surface.{levelOf}
 use Rattle.levels.specs.declared.Problem.{Problem}
 use Rattle.levels.specs.Levels.{solution}
@@ -60,7 +60,7 @@ pub level-is : (ps : List Point) (st : Settings) {g : Grid} {x : List Float} {le
 unfolding levelFor
 level-is ps st grid field e = cc
 
-pub counted-is : (ps : List Point) (st : Settings) {g : Grid} {x : List Float} {l : Lattice} {level : Float} {table : List ℕ} {r : Totals}
+pub counted-is : (ps : List Point) (st : Settings) {g : Grid} {x : List Float} {l : Lattice} {level : Float} {table : List ℕ} {r : MeshSize}
     → g ≡ gridFor ps st → x ≡ fieldFor ps st → l ≡ latticeOf g → level ≡ levelFor ps st → Counted x table l level r
     → Counted (fieldFor ps st) table (latticeFor ps st) (levelFor ps st) r
 counted-is ps st {g} {x} {l} {level} {table} {r} grid field block top k =

@@ -12,7 +12,8 @@ use Rattle.lists.specs.Lists.{zero32, zeros32}
 use Rattle.lists.specs.Tabulate.{length-tabulate}
 use Rattle.grid.specs.declared.Grid.{Grid}
 use Rattle.grid.specs.Grid.{gridOf, allNodes}
-use Rattle.vectors.specs.Vectors.{zero64, plusAt}
+use Rattle.numbers.specs.Constants.{zero64}
+use Rattle.vectors.specs.Vectors.{plusAt}
 use Rattle.field.specs.Field.{rightSide}
 use Rattle.solver.specs.Solver.{State, started, stops, alphaOf, next, steps, normOf, conjugate}
 use Rattle.points.specs.declared.point.Point.{Point}

@@ -16,7 +16,7 @@ use Rattle.closed.specs.Bounds.{faces-le, vertices-le}
 use Rattle.grid.specs.declared.Lattice.{Lattice}
 use Rattle.grid.specs.Grid.{Counts}
 use Rattle.cells.specs.Extraction.{countX, countY, countZ, below, edgeFaces, vertexEdges, extractedFaces, extractedVertices, edgePoint, pointsOf}
-use Rattle.orientation.specs.Orientation.{vertexCount, Meshed}
+use Rattle.meshes.specs.FlatMesh.{vertexCount, Meshed}
 
 module _ (values : List Float) (l : Lattice) (iso : Float) where
   -- three coordinates a vertex

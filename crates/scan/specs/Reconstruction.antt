@@ -23,8 +23,10 @@ use Rattle.levels.specs.declared.Problem.{Problem}
 use Rattle.levels.specs.Levels.{solution}
 use Rattle.trim.specs.Trim.{trimmedVertices, trimmedFaces}
 use Rattle.cells.specs.Extraction.{vertexEdges, edgeFaces, extractedVertices, extractedFaces}
-use Rattle.orientation.specs.Orientation.{orientedFaces, vertexCount}
-use Rattle.surface.specs.Surface.{levelOf, boxOf}
+use Rattle.meshes.specs.FlatMesh.{vertexCount}
+use Rattle.meshes.specs.BoxOfVertices.{boxOf}
+use Rattle.orientation.specs.Orientation.{orientedFaces}
+use Rattle.surface.specs.Surface.{levelOf}
 use Rattle.ending.specs.Slices.{Slices}
 
 -- ---- the stages, over the usable points

@@ -18,7 +18,7 @@ use Rattle.settings.specs.Answers.{answerUnder}
 use Rattle.settings.specs.Refusals.{meshVerdict}
 use Rattle.numbering.specs.FirstPass.{edgeTable}
 use Rattle.scan.specs.declared.Found.{Found}
-use Rattle.trim.specs.declared.MeshSize.{MeshSize}
+use Rattle.meshes.specs.declared.MeshSize.{MeshSize}
 use Rattle.scan.specs.Reconstruction.{gridFor, latticeFor, fieldFor, levelFor, vertexTotal, faceTotal, keptVertices, keptFaces, meshAnswer}
 
 -- the grid over a box, and that its side is one of 2^1 .. 2^8 nodes

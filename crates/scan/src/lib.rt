@@ -10,11 +10,11 @@ ghost use Rattle.points.specs.Box.{boundsOf};
 ghost use Rattle.scan.specs.Stages.{GridOver, Lent, Solved, Prepared, Drawable, Drawn, concluded};
 use grid::Grid;
 use levels::Problem;
+use meshes::MeshSize;
 use points::Bounds;
 use settings::Answer;
 use settings::Settings;
 use settings::Verdict;
-use trim::MeshSize;
 
 // The level, and V and F of the untrimmed mesh.
 pub struct Found {
@@ -160,7 +160,7 @@ pub fn conclude(usable: usize, level: f32, faces: usize, vertices: &[f32]) -> An
     let Verdict::Pass = verdict else {
         return Answer::refused(verdict);
     };
-    let reach = surface::bounds(vertices);
+    let reach = meshes::bounds(vertices);
     let low = reach.low;
     let high = reach.high;
     Answer {

@@ -5,7 +5,7 @@ use mathlib.Core.Bool.{Bool, true, false, cond, not, _||_, true≢false}
 use mathlib.Core.List.{List, [], _∷_}
 use Prim.Native.Nat.{ℕ, _*_, _%_, _^_, _≤_, _<_}
 use native.Mathlib.Omega.{arith}
-use borrow.Author.Tests.{ltb-false, eqb-false, eqb-true}
+use borrow.Author.Tests.{ltb-false, eqb-false, eqb-true, eq-eqb}
 use lib.Dec.{ltb, eqb}
 use lib.ListN.{length}
 use lib.Ieee.{Float, lt, eq, ofBits, binary64}
@@ -13,9 +13,10 @@ use Rattle.lists.specs.Lists.{zero32}
 use Rattle.points.specs.Points.{numbersPerPoint, given}
 use Rattle.settings.specs.declared.Settings.{Settings}
 use Rattle.settings.specs.declared.Lengths.{Lengths}
+use Rattle.settings.specs.declared.Answer.{Answer}
 use Rattle.settings.specs.declared.Verdict.{Verdict}
 use Rattle.settings.specs.declared.Verdict.the-variants.{Pass, PointSlice, NoPoints, Depth, Smoothing, ScratchRoom, TooFew, Flat, VertexRoom, FaceRoom, NoFace}
-use Rattle.settings.specs.Answers.{accepts}
+use Rattle.settings.specs.Answers.{numberOf, accepts, refused, answerUnder}
 use Rattle.settings.specs.Refusals.{_when_, _then_, pointSliceVerdict, noPointsVerdict, depthVerdict, smoothingVerdict, anyShort, scratchVerdict, earlyVerdict, usableVerdict, extentVerdict, vertexRoomVerdict, faceRoomVerdict, roomVerdict, meshVerdict}
 
 -- ---- `then` and `when`
@@ -33,6 +34,18 @@ accepted Flat e = absurd (true≢false (sym e))
 accepted VertexRoom e = absurd (true≢false (sym e))
 accepted FaceRoom e = absurd (true≢false (sym e))
 accepted NoFace e = absurd (true≢false (sym e))
+
+-- number 0 is acceptance
+pub passed : (v : Verdict) → numberOf v ≡ 0 → v ≡ Pass
+passed v e = accepted v (eq-eqb (numberOf v) 0 e)
+
+-- whatever would be answered under acceptance, the number is the verdict's
+pub number-under : (v : Verdict) (a : Answer) → a .number ≡ 0 → answerUnder v a .number ≡ numberOf v
+number-under v a z = by-cases (accepts v) refl
+  where
+    by-cases : (b : Bool) → accepts v ≡ b → cond b a (refused v) .number ≡ numberOf v
+    by-cases true e = z ∙ sym (eqb-true (numberOf v) 0 e)
+    by-cases false e = refl
 
 -- where both of two verdicts are asked and none refuses, each passes
 pub both-pass : (v w : Verdict) → v then w ≡ Pass → (v ≡ Pass) × (w ≡ Pass)

@@ -7,8 +7,3 @@ use Rattle.surface.proofs as fn
 
 pub level : OneOutcome fn.mean.level.ended fn.mean.level.Reads.Post
 level κs args o o′ p q = same p q & refl
-
--- ---- reach.rt
-
-pub bounds : OneOutcome fn.reach.bounds.ended fn.reach.bounds.Reads.Post
-bounds κs args o o′ p q = same p q & refl

@@ -1,3 +1,2 @@
--- Document 01's level and box of the vertices: the definitions, then what is proved of them.
+-- Document 01's level.
 pub mod Surface
-pub mod Examples

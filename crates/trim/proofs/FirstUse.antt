@@ -19,8 +19,8 @@ use Rattle.closed.specs.Counting.{at-map}
 use Rattle.closed.specs.Mesh.{face-cong}
 use Rattle.closed.specs.Renumber.{in-head, in-tail, note-old, member-grow, dedup-append, indexOf-grow, slot-in, slot-nil, in-of-slot, out-of-slot, slot-note-new, slot-note-other, length-note-new}
 use Rattle.closed.specs.Turning.{corners-append, length-faces}
-use Rattle.orientation.specs.Orientation.{faceCount, cornersAt, putFace, Corners}
-use Rattle.orientation.specs.FlatFaces.{noFace, face-read, FacesFilled, faces-none, faces-now, faces-more}
+use Rattle.meshes.specs.FlatMesh.{faceCount, cornersAt, putFace, Corners}
+use Rattle.meshes.specs.FlatFaces.{noFace, face-read, FacesFilled, faces-none, faces-now, faces-more}
 use Rattle.trim.specs.Passes.{Slots, Noted, Renumbered}
 
 -- ---- the table

@@ -12,8 +12,8 @@ use Rattle.closed.specs.Lists.{keep}
 use Rattle.closed.specs.Faces.{Face, faces, faceOf}
 use Rattle.closed.specs.Counting.{keep-append}
 use Rattle.closed.specs.Turning.{length-faces}
-use Rattle.orientation.specs.Orientation.{faceCount, cornersAt, putFace}
-use Rattle.orientation.specs.FlatFaces.{noFace, face-read, face-put, length-put}
+use Rattle.meshes.specs.FlatMesh.{faceCount, cornersAt, putFace}
+use Rattle.meshes.specs.FlatFaces.{noFace, face-read, face-put, length-put}
 
 -- ---- one element more
 

@@ -1,12 +1,9 @@
 -- No second outcome fits: the public function that is seen outside the crate; `keep_faces`, `number` and `move_vertices` are called for it alone.
 -- V is told by 3V. Assumes nothing.
-use mathlib.Core.Path.{_≡_, refl}
+use mathlib.Core.Path.{refl}
 use Rattle.lists.specs.OneAnswer.{OneOutcome, same, _&_, by-thrice}
-use Rattle.trim.specs.declared.MeshSize.{MeshSize}
+use Rattle.meshes.proofs.OneAnswer.{by-counts}
 use Rattle.trim.proofs as fn
-
-by-counts : {a b : MeshSize} → a .vertices ≡ b .vertices → a .faces ≡ b .faces → a ≡ b
-by-counts vertices faces = λ i. record { vertices = vertices i; faces = faces i }
 
 pub trim : OneOutcome fn.trim.ended fn.trim.Reads.Post
 trim κs args o o′ p q =

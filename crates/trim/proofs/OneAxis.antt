@@ -12,7 +12,7 @@ use lib.Ieee.{Float, nan}
 use Rattle.lists.specs.Lists.{at}
 use Rattle.closed.specs.Numbering.{indexOf, slot, NoRepeat}
 use Rattle.closed.specs.Renumber.{in-or-not, in-at, at-indexOf, indexOf-at, slot-in, slot-out}
-use Rattle.orientation.specs.Orientation.{vertexCount, coordinate}
+use Rattle.meshes.specs.FlatMesh.{vertexCount, coordinate}
 use Rattle.trim.specs.Passes.{Slots, carried, gathered, scattered}
 
 -- ---- carried

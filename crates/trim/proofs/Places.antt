@@ -17,7 +17,7 @@ use Rattle.closed.specs.Renumber.{in-at, in-all, at-indexOf, indexOf-lt}
 use Rattle.closed.specs.Mesh.{in-keep, used-member, used-no-repeat}
 use Rattle.closed.specs.Vertices.{length-members}
 use Rattle.closed.specs.Turning.{corners-append, corners-faces, length-corners, length-faces}
-use Rattle.orientation.specs.Orientation.{vertexCount, faceCount, coordinate, Meshed}
+use Rattle.meshes.specs.FlatMesh.{vertexCount, faceCount, coordinate, Meshed}
 use Rattle.trim.specs.Trim.{placesOf}
 use Rattle.trim.specs.TrimmedMesh.{length-places}
 use Rattle.trim.specs.Passes.{Slots, gathered, scattered}

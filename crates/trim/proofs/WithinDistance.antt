@@ -15,9 +15,9 @@ use Rattle.closed.specs.Renumber.{in-or-not, in-at, indexOf-lt, note-old, lengt
 use Rattle.closed.specs.Mesh.{mesh-length}
 use Rattle.closed.specs.Turning.{length-corners, length-faces, corners-faces}
 use Rattle.points.specs.declared.point.Point.{Point}
-use Rattle.orientation.specs.Orientation.{vertexCount, faceCount, Meshed}
+use Rattle.meshes.specs.FlatMesh.{vertexCount, faceCount, Meshed}
 use Rattle.settings.specs.declared.Trimming.the-variants.{Off, Within}
-use Rattle.trim.specs.declared.MeshSize.{MeshSize}
+use Rattle.meshes.specs.declared.MeshSize.{MeshSize}
 use Rattle.trim.specs.Trim.{near, nearFaces, placesOf, trimmedFaces, trimmedVertices, Trimmed}
 use Rattle.trim.specs.Passes.{Slots, Front}
 use Rattle.trim.specs.TrimmedMesh.{length-places}

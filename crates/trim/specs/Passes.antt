@@ -7,8 +7,8 @@ use lib.Ieee.{Float}
 use Rattle.lists.specs.Lists.{at}
 use Rattle.closed.specs.Faces.{Face, faces}
 use Rattle.closed.specs.Numbering.{used, mesh, slot}
-use Rattle.orientation.specs.Orientation.{vertexCount, coordinate}
-use Rattle.trim.specs.declared.MeshSize.{MeshSize}
+use Rattle.meshes.specs.FlatMesh.{vertexCount, coordinate}
+use Rattle.meshes.specs.declared.MeshSize.{MeshSize}
 
 -- ---- the table: for each old vertex 0, or one more than its place among those seen
 

@@ -11,10 +11,11 @@ use Rattle.closed.specs.Faces.{Face, corners, faces}
 use Rattle.closed.specs.Numbering.{used, mesh}
 use Rattle.points.specs.declared.point.Point.{Point}
 use Rattle.search.specs.Search.{withinOf}
-use Rattle.orientation.specs.Orientation.{vertexCount, coordinate, centreOf}
+use Rattle.meshes.specs.FlatMesh.{vertexCount, coordinate}
+use Rattle.orientation.specs.Orientation.{centreOf}
 use Rattle.settings.specs.declared.Trimming.{Trimming}
 use Rattle.settings.specs.declared.Trimming.the-variants.{Off, Within}
-use Rattle.trim.specs.declared.MeshSize.{MeshSize}
+use Rattle.meshes.specs.declared.MeshSize.{MeshSize}
 
 -- ---- which faces are kept
 

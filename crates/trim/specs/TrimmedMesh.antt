@@ -14,8 +14,8 @@ use Rattle.closed.specs.Renumber.{in-at}
 use Rattle.closed.specs.Mesh.{mesh-apart, corner-lt}
 use Rattle.closed.specs.Turning.{length-corners}
 use Rattle.points.specs.declared.point.Point.{Point}
-use Rattle.orientation.specs.Orientation.{Meshed}
-use Rattle.orientation.specs.FlatFaces.{meshed-corners}
+use Rattle.meshes.specs.FlatMesh.{Meshed}
+use Rattle.meshes.specs.FlatFaces.{meshed-corners}
 use Rattle.settings.specs.declared.Trimming.{Trimming}
 use Rattle.settings.specs.declared.Trimming.the-variants.{Off, Within}
 use Rattle.trim.specs.Trim.{near, nearFaces, placesOf, trimmedFaces, trimmedVertices}

@@ -4,11 +4,11 @@ ghost use lib.ListN.{length, take};
 ghost use Rattle.closed.specs.Faces as Flat;
 ghost use Rattle.closed.specs.Lists.{keep};
 ghost use Rattle.points.specs.Points.{usables};
-ghost use Rattle.orientation.specs.Orientation.{Meshed, Corners, vertexCount};
+ghost use Rattle.meshes.specs.FlatMesh.{Meshed, Corners, vertexCount};
 ghost use Rattle.trim.specs.Trim.{near};
+use meshes::read_face;
+use meshes::write_face;
 use orientation::centre;
-use orientation::read_face;
-use orientation::write_face;
 
 // Whether a face's centre, in the order after turning, has a squared distance of at most the limit to some usable point.
 fn is_near(points: &[f32], limit: f32, vertices: &[f32], face: [u32; 3]) -> bool

@@ -11,17 +11,12 @@ ghost use lib.ListN.{length};
 ghost use Rattle.lists.specs.Lists.{zeros32, zerosU};
 ghost use Rattle.closed.specs.Faces as Flat;
 ghost use Rattle.points.specs.Points.{usables};
-ghost use Rattle.orientation.specs.Orientation.{vertexCount, Meshed};
+ghost use Rattle.meshes.specs.FlatMesh.{vertexCount, Meshed};
 ghost use Rattle.settings.specs.declared.Trimming.the-variants.{Within};
 ghost use Rattle.trim.specs.Trim.{nearFaces, Trimmed, TrimRoom};
 ghost use Rattle.trim.specs.Passes.{Front};
+use meshes::MeshSize;
 use settings::Trimming;
-
-// How many vertices and faces a mesh has.
-pub struct MeshSize {
-    pub vertices: usize,
-    pub faces: usize,
-}
 
 // The faces near a usable point move to the front and are renumbered; the table has the new number of each vertex that they use.
 fn keep_near(

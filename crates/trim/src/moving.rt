@@ -4,7 +4,7 @@ ghost use Prim.Native.Nat.{ℕ, _*_, _<_, _≤_};
 ghost use mathlib.Core.List.{List};
 ghost use lib.ListN.{length, getD, set, take};
 ghost use Rattle.lists.specs.Lists.{at};
-ghost use Rattle.orientation.specs.Orientation.{vertexCount};
+ghost use Rattle.meshes.specs.FlatMesh.{vertexCount};
 ghost use Rattle.closed.specs.Numbering.{NoRepeat};
 ghost use Rattle.trim.specs.Trim.{placesOf};
 ghost use Rattle.trim.specs.Passes.{Slots, lines, Even, carried, gathered, scattered, Lists};

@@ -6,11 +6,11 @@ ghost use lib.ListN.{length, getD, take};
 ghost use Rattle.lists.specs.Lists.{zerosU};
 ghost use Rattle.closed.specs.Faces as Flat;
 ghost use Rattle.closed.specs.Numbering.{note, grow};
-ghost use Rattle.orientation.specs.Orientation.{Corners, faceCount};
+ghost use Rattle.meshes.specs.FlatMesh.{Corners, faceCount};
 ghost use Rattle.trim.specs.Passes.{Slots, Noted, Renumbered};
 use grid::Vertex;
-use orientation::read_face;
-use orientation::write_face;
+use meshes::read_face;
+use meshes::write_face;
 
 // A vertex that is not noted yet takes the next number. How many there are then.
 fn note_vertex(table: &mut [u32], seen: u32, v: Vertex) -> u32

@@ -3,7 +3,7 @@ use mathlib.Core.Path.{sym, _∙_}
 use Prim.Native.Nat.{_<_}
 use denote.Ref.{now}
 use native.Mathlib.Omega.{arith}
-use Rattle.grid.specs.Rows.{row-end, square-most, cube-most, row-plane, inner-row}
+use Rattle.grid.specs.Rows.{square-most, row-plane, inner-row}
 use Rattle.laplacian.proofs.ApplyRows.{boundary-row-is, inner-row-is}
 use borrow.Author.Needs.{needs}
 use Rattle.laplacian.proofs.apply_row.Statement.{statement}
@@ -15,11 +15,8 @@ boundary-row-requires c κs = search needs
 clear-f32-requires : tie.Need-clear-f32-requires
 clear-f32-requires c κs = search needs
 
-mul-of : tie.Need-mul-of
-mul-of c = let s = c .before .before .before .before .before in omega (arith, row-end (s .args .g .nodes) (s .pre .1 .0), cube-most (s .pre .0 .most))
-
-of-requires : tie.Need-of-requires
-of-requires c κs = search needs
+row-start-requires : tie.Need-row-start-requires
+row-start-requires c κs = search needs
 
 mul-inner-row : tie.Need-mul-inner-row
 mul-inner-row c = omega (arith, square-most (c .before .before .before .before .before .before .pre .0 .most))
@@ -28,7 +25,7 @@ inner-row-requires : tie.Need-inner-row-requires
 inner-row-requires c κs =
     let s = c .before .before .before .before .before .before in
     let some : 0 < s .args .g .nodes = omega (arith, s .pre .0 .two) in
-    omega (arith, c .of .ensures, s .pre .0 .two, s .pre .1, row-plane some, inner-row (s .args .g .nodes) (s .pre .1 .0) (sym (c .before .before .before .boundary-row .ensures) ∙ c .before .before .if1 .left))
+    omega (arith, c .row-start .ensures, s .pre .0 .two, s .pre .1, row-plane some, inner-row (s .args .g .nodes) (s .pre .1 .0) (sym (c .before .before .before .boundary-row .ensures) ∙ c .before .before .if1 .left))
 
 same-length : tie.Need-same-length
 same-length c = search needs
@@ -44,7 +41,7 @@ same-length-2 c = search needs
 returns-2 : tie.Need-returns-2
 returns-2 c =
     let s = c .before .before .before .before .before .before .before .before .before in
-    c .before .before .inner-row .ensures ∙ inner-row-is (s .args .g .nodes) (now (s .args .x)) (s .args .row) (s .pre .1 .2) (c .before .before .before .of .ensures) (sym (c .before .before .before .before .before .before .boundary-row .ensures) ∙ c .before .before .before .before .before .if1 .left)
+    c .before .before .inner-row .ensures ∙ inner-row-is (s .args .g .nodes) (now (s .args .x)) (s .args .row) (s .pre .1 .2) (c .before .before .before .row-start .ensures) (sym (c .before .before .before .before .before .before .boundary-row .ensures) ∙ c .before .before .before .before .before .if1 .left)
 
 pub apply-row-spec : {M : Type 1} → statement M
 apply-row-spec =
@@ -52,8 +49,7 @@ apply-row-spec =
     (tie.spec
     boundary-row-requires
     clear-f32-requires
-    mul-of
-    of-requires
+    row-start-requires
     mul-inner-row
     inner-row-requires
     same-length

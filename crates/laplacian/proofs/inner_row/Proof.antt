@@ -8,36 +8,29 @@ use Rattle.lists.specs.Lists.{zero32}
 use Rattle.lists.specs.Fill.{Filled}
 use Rattle.laplacian.specs.Inner.{innerRowAt}
 use Rattle.laplacian.proofs.InnerRow.{row-start, row-more, row-done}
-use borrow.Author.Needs.{needs}
 use Rattle.laplacian.proofs.inner_row.Statement.{statement}
 use Rattle.laplacian.proofs.inner_row.Tie as tie
 
 abbrev Inv-loop : tie.InvT-loop
-Inv-loop x y₀ plane n q k₀ y k = Filled (innerRowAt plane n x q) y₀ y k × (length y₀ ≡ n) × (1 ≤ k) × (k < n)
+Inv-loop x y₀ first plane n k₀ y k = Filled (innerRowAt plane n x (first .0)) y₀ y k × (length y₀ ≡ n) × (1 ≤ k) × (k < n)
 
 abbrev μ-loop : tie.MeasureT-loop
-μ-loop x y₀ plane n q k₀ y k = n - k
-
-place-requires : tie.Need-place-requires Inv-loop μ-loop
-place-requires c κs = search needs
+μ-loop x y₀ first plane n k₀ y k = n - k
 
 slice-write-y : tie.Need-slice-write-y Inv-loop μ-loop
 slice-write-y c = omega arith
 
 loop-holds : tie.Need-loop-holds Inv-loop μ-loop
 loop-holds c =
-    let s = c .before .before .before in
+    let s = c .before .before in
     let y = now (s .args .y) in
     (row-start (s .args .plane) _ (now (s .args .x)) _ y (omega arith), length-set y 0 zero32, omega arith, omega arith)
 
 sub-loop : tie.Need-sub-loop Inv-loop μ-loop
 sub-loop c = omega arith
 
-add-of : tie.Need-add-of Inv-loop μ-loop
-add-of c = omega arith
-
-of-requires : tie.Need-of-requires Inv-loop μ-loop
-of-requires c κs = search needs
+after-requires : tie.Need-after-requires Inv-loop μ-loop
+after-requires c κs = omega arith
 
 stencil-requires : tie.Need-stencil-requires Inv-loop μ-loop
 stencil-requires c κs = omega arith
@@ -57,8 +50,8 @@ loop-less c = omega arith
 loop-again : tie.Need-loop-again Inv-loop μ-loop
 loop-again c =
     let q = c .before .before .before in
-    let s = q .before .before .before .before in
-    (row-more (s .args .plane) _ (now (s .args .x)) _ (q .loop .inv .0) (q .loop .inv .1) (omega arith) (omega arith) (c .stencil .ensures ∙ rw (c .before .of .ensures)), q .loop .inv .1, omega arith, omega arith)
+    let s = q .before .before .before in
+    (row-more (s .args .plane) _ (now (s .args .x)) _ (q .loop .inv .0) (q .loop .inv .1) (omega arith) (omega arith) (c .stencil .ensures ∙ rw (c .before .after .ensures)), q .loop .inv .1, omega arith, omega arith)
 
 mul-y-2 : tie.Need-mul-y-2 Inv-loop μ-loop
 mul-y-2 c = omega arith
@@ -72,8 +65,8 @@ same-length c = length-set (c .before .loop .y) (c .before .loop .k) zero32 ∙ 
 returns : tie.Need-returns Inv-loop μ-loop
 returns c =
     let q = c .before in
-    let s = q .before .before .before .before in
-    rw (← q .before .place .ensures) (row-done (s .args .plane) _ (now (s .args .x)) _ (q .loop .inv .0) (q .loop .inv .1) (omega arith))
+    let s = q .before .before .before in
+    row-done (s .args .plane) _ (now (s .args .x)) _ (q .loop .inv .0) (q .loop .inv .1) (omega arith)
 
 pub inner-row-spec : {M : Type 1} → statement M
 inner-row-spec =
@@ -81,12 +74,10 @@ inner-row-spec =
     (tie.spec
     Inv-loop
     μ-loop
-    place-requires
     slice-write-y
     loop-holds
     sub-loop
-    add-of
-    of-requires
+    after-requires
     stencil-requires
     mul-y
     slice-write-y-2

@@ -10,8 +10,8 @@ use Rattle.closed.specs.Faces as Flat
 use Rattle.closed.specs.Counting.{at-map}
 use Rattle.closed.specs.Turning.{length-faces}
 use Rattle.lists.specs.Tabulate.{tabulate-by}
-use Rattle.orientation.specs.Orientation.{faceCount}
-use Rattle.orientation.specs.FlatFaces.{noFace, FacesFilled, faces-none, faces-now, faces-more, faces-done}
+use Rattle.meshes.specs.FlatMesh.{faceCount}
+use Rattle.meshes.specs.FlatFaces.{noFace, FacesFilled, faces-none, faces-now, faces-more, faces-done}
 use Rattle.orientation.proofs.turn_all.Statement.{statement}
 use Rattle.orientation.proofs.turn_all.Tie as tie
 

@@ -6,7 +6,7 @@ use denote.Ref.{now}
 use lib.ListN.{length}
 use Rattle.closed.specs.Mesh.{used-no-repeat}
 use Rattle.points.specs.Points.{usables}
-use Rattle.orientation.specs.Orientation.{vertexCount}
+use Rattle.meshes.specs.FlatMesh.{vertexCount}
 use Rattle.trim.specs.Passes.{Even}
 use Rattle.trim.proofs.WithinDistance.{slots-le, within-below, within-vertices, within-faces, within-count, trimmed-within}
 use borrow.Author.Needs.{needs}

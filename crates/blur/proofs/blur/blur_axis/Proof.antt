@@ -13,10 +13,10 @@ use Rattle.blur.proofs.blur.blur_axis.Statement.{statement}
 use Rattle.blur.proofs.blur.blur_axis.Tie as tie
 
 abbrev Inv-loop : tie.InvT-loop
-Inv-loop v out₀ axis kernel radius n row₀ out row = Filled (blurAt axis n radius kernel v) out₀ out (row * n) × (row ≤ n * n)
+Inv-loop g v out₀ axis kernel radius n row₀ out row = Filled (blurAt axis n radius kernel v) out₀ out (row * n) × (row ≤ n * n)
 
 abbrev μ-loop : tie.MeasureT-loop
-μ-loop v out₀ axis kernel radius n row₀ out row = n * n - row
+μ-loop g v out₀ axis kernel radius n row₀ out row = n * n - row
 
 -- the row lies within the cube
 within : (c : tie.In-loop Inv-loop μ-loop) → Within (c .before .before .before .before .before .args .g .nodes) (c .before .loop .row)
@@ -54,7 +54,7 @@ blur-row-requires c κs =
     let r = q .loop .row in
     let w = within (c .before) in
     let len = length-part (r * n) (r * n + n) (q .loop .out) (omega (arith, q .loop .inv .0 .same)) in
-    (s .pre .0 .most, c .before .loop-test .taken, omega arith, s .pre .1, s .pre .3, s .pre .4)
+    (s .pre .0, c .before .loop-test .taken, omega arith, s .pre .1, s .pre .3, s .pre .4)
 
 add-row : tie.Need-add-row Inv-loop μ-loop
 add-row c = omega (arith, within (c .before .before .before .before))

@@ -1,9 +1,11 @@
 -- `blur::blur::blur_row` meets its contract: the row along each axis (`Axes`).
 -- Assumes nothing.
-use Prim.Native.Nat.{_+_, _*_}
+use mathlib.Core.Path.{_∙_}
+use Prim.Native.Nat.{_+_, _*_, _/_, _≤_}
+use native.Mathlib.Nat.{mul-assoc}
 use denote.Ref.{now}
 use Rattle.lists.specs.Part.{length-part}
-use Rattle.grid.specs.Rows.{row-of}
+use Rattle.grid.specs.Rows.{row-of, row-end, row-plane}
 use Rattle.blur.specs.Within.{Within, within-cube, planes-within, rows-within}
 use Rattle.blur.proofs.Axes.{axis-0, axis-1, axis-2}
 use borrow.Author.Needs.{needs}
@@ -12,8 +14,8 @@ use Rattle.blur.proofs.blur.blur_row.Statement.{statement}
 use Rattle.blur.proofs.blur.blur_row.Tie as tie
 
 -- what its numbers are made of stays within the cube
-within : (s : tie.Start) → Within (s .args .n) (s .args .row)
-within s = within-cube (s .args .n) (s .args .row) (s .pre .0) (s .pre .1)
+within : (s : tie.Start) → Within (s .args .g .nodes) (s .args .row)
+within s = within-cube (s .args .g .nodes) (s .args .row) (s .pre .0 .most) (s .pre .1)
 
 div-i : tie.Need-div-i
 div-i c = omega (arith, within (c .before .before .before))
@@ -21,11 +23,11 @@ div-i c = omega (arith, within (c .before .before .before))
 rem-j : tie.Need-rem-j
 rem-j c = omega (arith, within (c .before .before .before))
 
-mul-of : tie.Need-mul-of
-mul-of c = omega (arith, within (c .before .before .before .before .before))
-
-of-requires : tie.Need-of-requires
-of-requires c κs = search needs
+row-start-requires : tie.Need-row-start-requires
+row-start-requires c κs =
+    let s = c .before .before .before .before .before in
+    let n = s .args .g .nodes in
+    (s .pre .0, omega (arith, row-of n n (s .pre .1) .1, row-plane (within s .some)))
 
 mul-blur-across : tie.Need-mul-blur-across
 mul-blur-across c = omega (arith, within (c .before .before .before .before .before .before))
@@ -33,27 +35,28 @@ mul-blur-across c = omega (arith, within (c .before .before .before .before .bef
 blur-across-requires : tie.Need-blur-across-requires
 blur-across-requires c κs =
     let s = c .before .before .before .before .before .before in
-    let n = s .args .n in
+    let n = s .args .g .nodes in
     let r = s .args .row in
     let h = s .pre .1 in
-    (row-of n n h .0, s .pre .0, s .pre .4, s .pre .5, (λ p hp. let g = planes-within n r h p hp in omega (arith, c .of .ensures)))
+    (row-of n n h .0, s .pre .0 .most, s .pre .4, s .pre .5, (λ p hp. let g = planes-within n r h p hp in omega (arith, c .row-start .ensures)))
 
-mul-of-2 : tie.Need-mul-of-2
-mul-of-2 c = omega (arith, within (c .before .before .before .before .before .before))
+-- the first row of the plane
+first : (s : tie.Start) → s .args .row / s .args .g .nodes * s .args .g .nodes + s .args .g .nodes ≤ s .args .g .nodes * s .args .g .nodes
+first s = let n = s .args .g .nodes in row-end n (row-of n n (s .pre .1) .0)
 
-mul-of-3 : tie.Need-mul-of-3
-mul-of-3 c = omega (arith, within (c .before .before .before .before .before .before))
+mul-row-start : tie.Need-mul-row-start
+mul-row-start c = let s = c .before .before .before .before .before .before in omega (arith, first s, within s)
 
-of-requires-2 : tie.Need-of-requires-2
-of-requires-2 c κs = search needs
+row-start-requires-2 : tie.Need-row-start-requires-2
+row-start-requires-2 c κs = let s = c .before .before .before .before .before .before in (s .pre .0, omega (arith, first s, within s))
 
 blur-across-requires-2 : tie.Need-blur-across-requires-2
 blur-across-requires-2 c κs =
     let s = c .before .before .before .before .before .before .before in
-    let n = s .args .n in
+    let n = s .args .g .nodes in
     let r = s .args .row in
     let h = s .pre .1 in
-    (row-of n n h .1, s .pre .0, s .pre .4, s .pre .5, (λ p hp. let g = rows-within n r h p hp in omega (arith, c .of2 .ensures)))
+    (row-of n n h .1, s .pre .0 .most, s .pre .4, s .pre .5, (λ p hp. let g = rows-within n r h p hp in omega (arith, c .row-start2 .ensures, mul-assoc (r / n) n n)))
 
 mul-a : tie.Need-mul-a
 mul-a c = omega (arith, within (c .before .before .before .before .before))
@@ -76,7 +79,7 @@ part-blur-along-end c = omega (arith, within (c .before .before .before .before 
 blur-along-requires : tie.Need-blur-along-requires
 blur-along-requires c κs =
     let s = c .before .before .before .before .before .before .before in
-    let n = s .args .n in
+    let n = s .args .g .nodes in
     let r = s .args .row in
     let w = within s in
     omega (arith, length-part (r * n) (r * n + n) (now (s .args .v)) (omega arith))
@@ -87,9 +90,9 @@ same-length c = search needs
 returns : tie.Need-returns
 returns c =
     let s = c .before .before .before .before .before .before .before .before .before in
-    let n = s .args .n in
+    let n = s .args .g .nodes in
     let r = s .args .row in
-    axis-0 n r (now (s .args .v)) (now (s .args .kernel)) (s .args .radius) (s .pre .2) (c .before .before .before .before .before .if1 .taken) (c .before .before .before .of .ensures) (c .before .before .blur-across .ensures)
+    axis-0 n r (now (s .args .v)) (now (s .args .kernel)) (s .args .radius) (s .pre .2) (c .before .before .before .before .before .if1 .taken) (c .before .before .before .row-start .ensures) (c .before .before .blur-across .ensures)
 
 same-length-2 : tie.Need-same-length-2
 same-length-2 c = search needs
@@ -97,9 +100,9 @@ same-length-2 c = search needs
 returns-2 : tie.Need-returns-2
 returns-2 c =
     let s = c .before .before .before .before .before .before .before .before .before .before in
-    let n = s .args .n in
+    let n = s .args .g .nodes in
     let r = s .args .row in
-    axis-1 n r (now (s .args .v)) (now (s .args .kernel)) (s .args .radius) (s .pre .2) (c .before .before .before .before .before .if2 .taken) (c .before .before .before .of2 .ensures) (c .before .before .blur-across2 .ensures)
+    axis-1 n r (now (s .args .v)) (now (s .args .kernel)) (s .args .radius) (s .pre .2) (c .before .before .before .before .before .if2 .taken) (c .before .before .before .row-start2 .ensures ∙ mul-assoc (r / n) n n) (c .before .before .blur-across2 .ensures)
 
 same-length-3 : tie.Need-same-length-3
 same-length-3 c = search needs
@@ -107,7 +110,7 @@ same-length-3 c = search needs
 returns-3 : tie.Need-returns-3
 returns-3 c =
     let s = c .before .before .before .before .before .before .before .before .before .before in
-    let n = s .args .n in
+    let n = s .args .g .nodes in
     let r = s .args .row in
     axis-2 n r (now (s .args .v)) (now (s .args .kernel)) (s .args .radius) (s .pre .2) (s .args .axis) (c .before .before .before .before .before .before .if1 .left) (c .before .before .before .before .before .if2 .left) (c .before .before .blur-along .ensures)
 
@@ -117,13 +120,11 @@ blur-row-spec =
     (tie.spec
     div-i
     rem-j
-    mul-of
-    of-requires
+    row-start-requires
     mul-blur-across
     blur-across-requires
-    mul-of-2
-    mul-of-3
-    of-requires-2
+    mul-row-start
+    row-start-requires-2
     blur-across-requires-2
     mul-a
     add-e

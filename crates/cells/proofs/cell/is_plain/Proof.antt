@@ -7,7 +7,6 @@ use borrow.Author.Tests.{ne-eqb}
 use lib.Dec.{eqb}
 use Rattle.cells.specs.CellWords.{belowCount, lineBelow}
 use Rattle.cells.specs.Plain.{row-most}
-use borrow.Author.Needs.{needs}
 use Rattle.cells.proofs.cell.is_plain.Statement.{statement}
 use Rattle.cells.proofs.cell.is_plain.Tie as tie
 
@@ -17,13 +16,13 @@ abbrev entry : tie.After-count-below → tie.Start
 entry c = c .before .before .before
 
 abbrev one : tie.After-count-below2 → tie.After-count-below
-one c = c .before .before
+one c = c .before
 
 abbrev two : tie.After-count-below3 → tie.After-count-below2
 two c = c .before .before
 
 abbrev three : tie.After-count-below4 → tie.After-count-below3
-three c = c .before .before .before
+three c = c .before .before
 
 abbrev start : tie.After-count-below3 → tie.Start
 start c = entry (one (two c))
@@ -51,51 +50,50 @@ total : (c : tie.After-count-below4) → count c ≡ lineBelow (start (three c) 
 total c =
     let t = three c in
     let r = row (start t) in
-    omega (arith, one (two t) .count-below .ensures, two t .count-below2 .ensures ∙ ap r (two t .before .of .ensures), t .count-below3 .ensures ∙ ap r (t .before .of2 .ensures), c .count-below4 .ensures ∙ ap r (c .before .of3 .ensures))
+    let plane = one (two t) .before .after .ensures in
+    omega (
+      arith,
+      one (two t) .count-below .ensures,
+      two t .count-below2 .ensures ∙ ap r plane,
+      t .count-below3 .ensures ∙ ap r (t .before .after2 .ensures ∙ ap (λ (n : ℕ). n + start t .args .nz) plane),
+      c .count-below4 .ensures ∙ ap r (c .before .after3 .ensures),
+    )
 
 abbrev plain : tie.Start → ℕ → Bool
 plain s m = eqb m 0 || eqb m (4 * s .args .nz)
 
 -- ---- the needs
 
-mul-plane : tie.Need-mul-plane
-mul-plane c = omega (arith, c .before .pre .0, c .before .pre .1)
+mul-after : tie.Need-mul-after
+mul-after c = omega (arith, c .before .pre .0, c .before .pre .1)
 
-add-plane : tie.Need-add-plane
-add-plane c = let s = c .before .before in omega (arith, s .pre .0, s .pre .1)
+after-requires : tie.Need-after-requires
+after-requires c κs = omega (arith, c .before .pre .0, c .before .pre .1)
 
 count-below-requires : tie.Need-count-below-requires
 count-below-requires c κs = let s = c .before .before in (omega (arith, s .pre .0), s .pre .1)
 
-of-requires : tie.Need-of-requires
-of-requires c κs = search needs
-
 count-below-requires-2 : tie.Need-count-below-requires-2
-count-below-requires-2 c κs = let s = entry (c .before) in (omega (arith, c .of .ensures, s .pre .0), s .pre .1)
+count-below-requires-2 c κs = let s = entry c in (omega (arith, c .before .after .ensures, s .pre .0), s .pre .1)
 
 add-count : tie.Need-add-count
 add-count c = omega (arith, few-2 c)
 
-add-of : tie.Need-add-of
-add-of c = let s = entry (one c) in omega (arith, s .pre .0, s .pre .1)
-
-of-requires-2 : tie.Need-of-requires-2
-of-requires-2 c κs = search needs
+after-requires-2 : tie.Need-after-requires-2
+after-requires-2 c κs = let s = entry (one c) in omega (arith, one c .before .after .ensures, s .pre .0, s .pre .1)
 
 count-below-requires-3 : tie.Need-count-below-requires-3
-count-below-requires-3 c κs = let s = entry (one (c .before)) in (omega (arith, c .of2 .ensures, s .pre .0), s .pre .1)
+count-below-requires-3 c κs =
+    let s = entry (one (c .before)) in (omega (arith, one (c .before) .before .after .ensures, c .after2 .ensures, s .pre .0), s .pre .1)
 
 add-count-2 : tie.Need-add-count-2
 add-count-2 c = omega (arith, few-2 (two c), few-3 c)
 
-add-of-2 : tie.Need-add-of-2
-add-of-2 c = let s = start (c .before) in omega (arith, s .pre .0, s .pre .1)
-
-of-requires-3 : tie.Need-of-requires-3
-of-requires-3 c κs = search needs
+after-requires-3 : tie.Need-after-requires-3
+after-requires-3 c κs = let s = start c in omega (arith, s .pre .0, s .pre .1)
 
 count-below-requires-4 : tie.Need-count-below-requires-4
-count-below-requires-4 c κs = let s = start (c .before .before) in (omega (arith, c .of3 .ensures, s .pre .0), s .pre .1)
+count-below-requires-4 c κs = let s = start (c .before) in (omega (arith, c .after3 .ensures, s .pre .0), s .pre .1)
 
 add-count-3 : tie.Need-add-count-3
 add-count-3 c = let t = three c in omega (arith, few-2 (two t), few-3 t, few (start t) _ _ (c .count-below4 .ensures))
@@ -116,18 +114,15 @@ pub is-plain-spec : {M : Type 1} → statement M
 is-plain-spec =
     tie.close
     (tie.spec
-    mul-plane
-    add-plane
+    mul-after
+    after-requires
     count-below-requires
-    of-requires
     count-below-requires-2
     add-count
-    add-of
-    of-requires-2
+    after-requires-2
     count-below-requires-3
     add-count-2
-    add-of-2
-    of-requires-3
+    after-requires-3
     count-below-requires-4
     add-count-3
     returns

@@ -1,9 +1,4 @@
 -- The slices have room for all planes (`room-all`), and what the planes leave in them is the mesh (`mesh-all`).
-use mathlib.Core.Path.{sym, ap, _∙_}
-use Prim.Native.Nat.{ℕ, _*_, _≤_}
-use native.Mathlib.Nat.{mul-le-mul-right, mul-assoc, one-mul}
-use native.Mathlib.Omega.{arith}
-use Rattle.cells.specs.Extraction.{countX, countY, countZ}
 use Rattle.extract.proofs.FirstPlace.{room-all, mesh-all}
 use borrow.Author.Needs.{needs}
 use Rattle.extract.proofs.write.write_mesh.Statement.{statement}
@@ -30,16 +25,8 @@ write-planes-requires c κs =
     let d = made c in
     let s = entry d in
     let a = s .args in
-    let r = s .pre .ready in
-    let h : 1 ≤ countX (a .lattice) = omega (arith, r .counts .two-x) in
-    let plane = countY (a .lattice) * countZ (a .lattice) in (
-      record {
-        counts = r .counts;
-        nodes = omega (arith, mul-le-mul-right plane h, one-mul plane, mul-assoc (countX (a .lattice)) (countY (a .lattice)) (countZ (a .lattice)), r .nodes);
-        edges = r .edges ∙ ap (λ (n : ℕ). 3 * n) (sym (r .nodes));
-        most = omega (arith, r .nodes, r .counts .most);
-      },
-      r .nodes,
+    let r = s .pre .ready in (
+      r,
       room-all (a .values .now) (a .lattice) (a .iso) (r .counts) (a .table .now) (s .pre .numbers) (a .vertices .now) (a .faces .now) (s .pre .points) (s .pre .triples),
       d .before .edge-offsets .ensures,
       d .triangle-table .ensures,

@@ -1,11 +1,13 @@
--- After j turns the first j lines are written. The next line lies inside (`inside`), and where there is room for all lines there is for it.
-use mathlib.Core.Path.{sym, ap}
+-- After j turns the first j lines are written. The next line lies inside (`line-inside` of the crate `grid`), and where there is room for all lines there is for
+-- it.
+use mathlib.Core.Path.{sym, ap, _∙_}
 use mathlib.Core.List.{List}
 use Prim.Native.Nat.{ℕ, _+_, _-_, _*_, _<_, _≤_}
-use native.Mathlib.Nat.{mul-le-mul-right, add-mul, le-mul-of-pos-right}
 use native.Mathlib.Omega.{arith}
 use lib.ListN.{length}
 use Rattle.closed.specs.Faces.{Face}
+use Rattle.grid.specs.Grid.{lineStart}
+use Rattle.grid.specs.Rows.{counts-few, line-inside}
 use Rattle.cells.specs.Extraction.{countY, countZ, edgePoint}
 use Rattle.cells.specs.CellWords.{lineFaces, planeFaces}
 use Rattle.extract.specs.SecondPass.{Written}
@@ -15,24 +17,24 @@ use Rattle.extract.proofs.write.write_plane.Statement.{statement}
 use Rattle.extract.proofs.write.write_plane.Tie as tie
 
 abbrev Inv-loop : tie.InvT-loop
-Inv-loop vertices₀ faces₀ values table iso from offsets triangles lattice ny nz placed₀ written₀ j₀ vertices faces placed written j =
+Inv-loop vertices₀ faces₀ values table iso i offsets triangles lattice ny placed₀ written₀ j₀ vertices faces placed written j =
     Written table (edgePoint values lattice iso) vertices₀ vertices faces₀ faces (record { vertices = placed₀; faces = written₀ }) (record { vertices = placed; faces = written })
-    (planeFaces values (countY lattice) (countZ lattice) iso (from .0) j) ×
+    (planeFaces values (countY lattice) (countZ lattice) iso i j) ×
     (j + 1 ≤ countY lattice)
 
 abbrev μ-loop : tie.MeasureT-loop
-μ-loop vertices₀ faces₀ values table iso from offsets triangles lattice ny nz placed₀ written₀ j₀ vertices faces placed written j = ny - j
+μ-loop vertices₀ faces₀ values table iso i offsets triangles lattice ny placed₀ written₀ j₀ vertices faces placed written j = ny - j
 
 -- ---- the places, and what is known there
 
 abbrev entry : tie.At-loop Inv-loop μ-loop → tie.Start Inv-loop μ-loop
-entry c = c .before .before .before .before .before .before .before
+entry c = c .before .before .before .before .before .before
 
-abbrev turn : tie.After-of Inv-loop μ-loop → tie.In-loop Inv-loop μ-loop
-turn c = c .before .before .before .before
+abbrev turn : tie.After-line-start Inv-loop μ-loop → tie.In-loop Inv-loop μ-loop
+turn c = c .before .before .before
 
 -- the next line's node was named, seen from the turn's end
-abbrev named : tie.After-slice-known4 Inv-loop μ-loop → tie.After-of Inv-loop μ-loop
+abbrev named : tie.After-slice-known4 Inv-loop μ-loop → tie.After-line-start Inv-loop μ-loop
 named c = c .before .before .before .before .before
 
 -- the faces of the line from node n on
@@ -40,45 +42,38 @@ abbrev line : tie.Start Inv-loop μ-loop → ℕ → List Face
 line s n = lineFaces (s .args .values .now) (countY (s .args .t5)) (countZ (s .args .t5)) (s .args .iso) n (countZ (s .args .t5) - 1)
 
 -- the line from node n on has both its rows of nodes, and the two of the next plane
-abbrev CornersIn : tie.Start Inv-loop μ-loop → ℕ → Type 0
-CornersIn s n = n + countY (s .args .t5) * countZ (s .args .t5) + (countZ (s .args .t5) + countZ (s .args .t5)) ≤ length (s .args .values .now)
+abbrev RowsIn : tie.Start Inv-loop μ-loop → ℕ → Type 0
+RowsIn s n = n + countY (s .args .t5) * countZ (s .args .t5) + (countZ (s .args .t5) + countZ (s .args .t5)) ≤ length (s .args .values .now)
 
-inside : (c : tie.In-loop Inv-loop μ-loop) → CornersIn (entry (c .before)) (entry (c .before) .args .from .0 + c .before .loop .j * countZ (entry (c .before) .args .t5))
+-- so has line j, where neither it nor the plane is the last
+abbrev node : tie.Start Inv-loop μ-loop → ℕ → ℕ
+node s j = lineStart (countY (s .args .t5)) (countZ (s .args .t5)) (s .args .i) j
+
+inside : (c : tie.In-loop Inv-loop μ-loop) → RowsIn (entry (c .before)) (node (entry (c .before)) (c .before .loop .j))
 inside c =
-    let j = c .before .loop .j in
     let s = entry (c .before) in
-    let h : j + 2 ≤ countY (s .args .t5) = omega (arith, c .loop-test .taken) in
-    omega (arith, mul-le-mul-right (countZ (s .args .t5)) h, add-mul j 2 (countZ (s .args .t5)), s .pre .0 .nodes)
+    let rows = line-inside (countZ (s .args .t5)) (s .args .i) (c .before .loop .j) (s .pre .1) (c .loop-test .taken) in
+    omega (arith, rows, s .pre .0 .nodes)
 
--- there are no more lines than nodes
 few : (c : tie.At-loop Inv-loop μ-loop) → c .loop .j + 1 ≤ 16777216
-few c =
-    let s = entry c in
-    let p : 0 < countZ (s .args .t5) = omega (arith, s .pre .0 .counts .two-z) in
-    omega (arith, c .loop .inv .1, le-mul-of-pos-right (countY (s .args .t5)) p, s .pre .0 .nodes, s .pre .0 .most)
+few c = omega (arith, c .loop .inv .1, counts-few (entry c .pre .0 .counts) .1)
 
 -- ---- the needs
 
 element-copy-out-ny : tie.Need-element-copy-out-ny Inv-loop μ-loop
 element-copy-out-ny c = search needs
 
-element-copy-out-nz : tie.Need-element-copy-out-nz Inv-loop μ-loop
-element-copy-out-nz c = search needs
-
 loop-holds : tie.Need-loop-holds Inv-loop μ-loop
-loop-holds c = (written-start _, omega (arith, c .before .before .before .before .before .before .pre .0 .counts .two-y))
+loop-holds c = (written-start _, omega (arith, c .before .before .before .before .before .pre .0 .counts .two-y))
 
 add-loop : tie.Need-add-loop Inv-loop μ-loop
 add-loop c = omega (arith, few c)
 
-mul-of : tie.Need-mul-of Inv-loop μ-loop
-mul-of c = let t = c .before .before in omega (arith, inside t, entry (t .before) .pre .0 .most)
-
-add-of : tie.Need-add-of Inv-loop μ-loop
-add-of c = let t = c .before .before .before in omega (arith, inside t, entry (t .before) .pre .0 .most)
-
-of-requires : tie.Need-of-requires Inv-loop μ-loop
-of-requires c κs = search needs
+line-start-requires : tie.Need-line-start-requires Inv-loop μ-loop
+line-start-requires c κs =
+    let t = c .before .before in
+    let s = entry (t .before) in
+    (s .pre .0 .counts, (omega (arith, s .pre .1), omega (arith, t .loop-test .taken)))
 
 write-line-requires : tie.Need-write-line-requires Inv-loop μ-loop
 write-line-requires c κs =
@@ -88,13 +83,13 @@ write-line-requires c κs =
     let less : l .loop .j < countY (s .args .t5) - 1 = omega (arith, t .loop-test .taken) in (
       record {
         counts = s .pre .0 .counts;
-        nodes = omega (arith, c .of .ensures, inside t);
-        edges = s .pre .0 .edges;
-        most = s .pre .0 .most;
+        nodes = omega (arith, c .line-start .ensures, inside t);
+        edges = s .pre .0 .edges ∙ ap (λ (n : ℕ). 3 * n) (sym (s .pre .0 .nodes));
+        most = omega (arith, s .pre .0 .nodes, s .pre .0 .counts .most);
       },
-      room-as (ap (line s) (sym (c .of .ensures))) (room-cell _ _ _ less (s .pre .1) (l .loop .inv .0)),
-      s .pre .2,
+      room-as (ap (line s) (sym (c .line-start .ensures))) (room-cell _ _ _ less (s .pre .2) (l .loop .inv .0)),
       s .pre .3,
+      s .pre .4,
     )
 
 add-j : tie.Need-add-j Inv-loop μ-loop
@@ -106,7 +101,7 @@ loop-less c = omega (arith, turn (named c) .loop-test .taken)
 loop-again : tie.Need-loop-again Inv-loop μ-loop
 loop-again c =
     let t = turn (named c) in
-    let next = written-as (ap (line (entry (t .before))) (named c .of .ensures)) (c .before .before .before .before .write-line .ensures) in
+    let next = written-as (ap (line (entry (t .before))) (named c .line-start .ensures)) (c .before .before .before .before .write-line .ensures) in
     (written-more-cells _ _ (t .before .loop .inv .0) next, omega (arith, t .loop-test .taken))
 
 same-length : tie.Need-same-length Inv-loop μ-loop
@@ -125,12 +120,9 @@ write-plane-spec =
     Inv-loop
     μ-loop
     element-copy-out-ny
-    element-copy-out-nz
     loop-holds
     add-loop
-    mul-of
-    add-of
-    of-requires
+    line-start-requires
     write-line-requires
     add-j
     loop-less

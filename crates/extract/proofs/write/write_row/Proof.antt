@@ -47,8 +47,8 @@ loop-holds c = (written-none, omega arith)
 row-face-requires : tie.Need-row-face-requires Inv-loop μ-loop
 row-face-requires c κs = (entry (c .before) .pre .4, entry (c .before) .pre .2, one-of c)
 
-write-face-requires : tie.Need-write-face-requires Inv-loop μ-loop
-write-face-requires c κs =
+place-face-requires : tie.Need-place-face-requires Inv-loop μ-loop
+place-face-requires c κs =
     let r = c .before .before in
     let l = turn r .before in
     let s = entry l in (
@@ -67,7 +67,7 @@ loop-less c = omega (arith, turn (read c) .loop-test .taken)
 loop-again : tie.Need-loop-again Inv-loop μ-loop
 loop-again c =
     let t = turn (read c) in
-    (written-more-faces (entry (t .before) .args .offsets .now) _ _ _ _ (one-of t) (read c .row-face .ensures) (t .before .loop .inv .0) (c .before .before .before .before .write-face .ensures), omega (arith, t .loop-test .taken))
+    (written-more-faces (entry (t .before) .args .offsets .now) _ _ _ _ (one-of t) (read c .row-face .ensures) (t .before .loop .inv .0) (c .before .before .before .before .place-face .ensures), omega (arith, t .loop-test .taken))
 
 same-length : tie.Need-same-length Inv-loop μ-loop
 same-length c = vertices-kept (c .before .loop .inv .0)
@@ -90,7 +90,7 @@ write-row-spec =
     row-faces-requires
     loop-holds
     row-face-requires
-    write-face-requires
+    place-face-requires
     add-k
     loop-less
     loop-again

@@ -56,8 +56,8 @@ part-any-row-start c = omega arith
 part-any-row-end : tie.Need-part-any-row-end Inv-loop μ-loop
 part-any-row-end c = omega (arith, within c, c .before .loop .inv .0 .same)
 
-of-requires : tie.Need-of-requires Inv-loop μ-loop
-of-requires c κs = search needs
+row-start-requires : tie.Need-row-start-requires Inv-loop μ-loop
+row-start-requires c κs = search needs
 
 boundary-row-requires : tie.Need-boundary-row-requires Inv-loop μ-loop
 boundary-row-requires c κs = search needs
@@ -72,8 +72,8 @@ any-row-requires c κs =
     let len : length (part (r * n) (r * n + n) (q .loop .b)) ≡ n = length-part (r * n) (r * n + n) (q .loop .b) (omega (arith, q .loop .inv .0 .same)) ∙ omega arith in (
       (λ e.
           let g = inner-row n (c .before .before .before .loop-test .taken) (sym (c .boundary-row .ensures) ∙ e) in
-          subst (λ (m : ℕ). (2 ≤ m) × (m ≤ 256) × (m * m ≤ c .before .of .result .0) × (c .before .of .result .0 + m + m * m ≤ length (now (s .args .x)))) (sym len)
-          (s .pre .0 .two, s .pre .0 .most, omega (arith, c .before .of .ensures), omega (arith, c .before .of .ensures))),
+          subst (λ (m : ℕ). (2 ≤ m) × (m ≤ 256) × (m * m ≤ c .before .row-start .result .0) × (c .before .row-start .result .0 + m + m * m ≤ length (now (s .args .x)))) (sym len)
+          (s .pre .0 .two, s .pre .0 .most, omega (arith, c .before .row-start .ensures), omega (arith, c .before .row-start .ensures))),
       s .pre .2 ∙ sym (s .pre .1),
       s .pre .3 ∙ sym (s .pre .1),
     )
@@ -96,7 +96,7 @@ loop-again c =
     let x = now (s .args .x) in
     let y = now (s .args .y) in
     let z = now (s .args .z) in
-    let first = c .before .before .before .before .of in
+    let first = c .before .before .before .before .row-start in
     let edge = c .before .before .before .boundary-row in (
       rw row-next
           (filled-part (r * n + n) (q .loop .inv .0) (c .before .before .any-row .ensures) (omega arith) (omega arith)
@@ -131,7 +131,7 @@ divergence-spec =
     sub-any-row
     part-any-row-start
     part-any-row-end
-    of-requires
+    row-start-requires
     boundary-row-requires
     any-row-requires
     add-row

@@ -11,7 +11,6 @@ use Rattle.grid.specs.Grid.{atEnd}
 use Rattle.grid.specs.Rows.{first-end, last-end, row-plane}
 use Rattle.field.specs.Inner.{rowAt}
 use Rattle.field.proofs.RightSide.{at-ends, between}
-use borrow.Author.Needs.{needs}
 use native.Mathlib.Omega.{arith}
 use Rattle.field.proofs.divergence.inner_row.Statement.{statement}
 use Rattle.field.proofs.divergence.inner_row.Tie as tie
@@ -35,17 +34,14 @@ loop-holds c =
 sub-loop : tie.Need-sub-loop Inv-loop μ-loop
 sub-loop c = omega arith
 
-add-of : tie.Need-add-of Inv-loop μ-loop
-add-of c = omega arith
-
-of-requires : tie.Need-of-requires Inv-loop μ-loop
-of-requires c κs = search needs
+after-requires : tie.Need-after-requires Inv-loop μ-loop
+after-requires c κs = omega arith
 
 inner-requires : tie.Need-inner-requires Inv-loop μ-loop
 inner-requires c κs =
-    let s = c .before .before .before .before .before .before .before .before in
+    let s = c .before .before .before .before .before .before .before in
     let plane = row-plane {n = length (now (s .args .b))} (omega arith) in
-    omega (arith, c .of .ensures, s .pre)
+    omega (arith, c .after .ensures, s .pre)
 
 mul-b : tie.Need-mul-b Inv-loop μ-loop
 mul-b c = omega arith
@@ -61,11 +57,11 @@ loop-less c = omega arith
 
 loop-again : tie.Need-loop-again Inv-loop μ-loop
 loop-again c =
-    let q = c .before .before .before .before in
+    let q = c .before .before .before in
     let s = q .before .before .before .before .before in
     let n = length (now (s .args .b)) in
     let f = rowAt n (s .args .h) (now (s .args .x)) (now (s .args .y)) (now (s .args .z)) (s .args .first .0) false in (
-      prefix-more f (q .loop .k) (q .loop .b) (q .loop .inv .0) (omega arith) (between n _ _ _ _ (s .args .first .0) (q .loop .k) (omega arith) (omega arith) (c .inner .ensures) (c .before .of .ensures)),
+      prefix-more f (q .loop .k) (q .loop .b) (q .loop .inv .0) (omega arith) (between n _ _ _ _ (s .args .first .0) (q .loop .k) (omega arith) (omega arith) (c .inner .ensures) (c .before .after .ensures)),
       length-set (q .loop .b) (q .loop .k) _ ∙ q .loop .inv .1,
       omega arith,
       omega arith,
@@ -101,8 +97,7 @@ inner-row-spec =
     slice-write-b
     loop-holds
     sub-loop
-    add-of
-    of-requires
+    after-requires
     inner-requires
     mul-b
     slice-write-b-2

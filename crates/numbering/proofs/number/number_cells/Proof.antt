@@ -12,7 +12,6 @@ use Rattle.numbering.specs.FirstPass.{Numbered, Few}
 use Rattle.cells.specs.Cells.{case-below, two-sides}
 use Rattle.numbering.proofs.Marking.{numbered-as, numbered-start, numbered-more-cells, numbered-all, numbered-kept, few-next, few-later}
 use Rattle.cells.specs.Rows.{edges-in, cell-faces, few-cell}
-use borrow.Author.Needs.{needs}
 use Rattle.numbering.proofs.number.number_cells.Statement.{statement}
 use Rattle.numbering.proofs.number.number_cells.Tie as tie
 
@@ -32,16 +31,16 @@ abbrev entry : tie.At-loop Inv-loop μ-loop → tie.Start Inv-loop μ-loop
 entry c = c .before .before .before .before
 
 -- the far side is known, and the turn begins, seen from where the cell's first edge is named; and that, seen from the turn's end
-abbrev farther : tie.After-of3 Inv-loop μ-loop → tie.After-side-of2 Inv-loop μ-loop
-farther c = c .before .before .before
+abbrev farther : tie.After-of Inv-loop μ-loop → tie.After-side-of2 Inv-loop μ-loop
+farther c = c .before .before
 
-abbrev turn : tie.After-of3 Inv-loop μ-loop → tie.In-loop Inv-loop μ-loop
-turn c = farther c .before .before .before
+abbrev turn : tie.After-of Inv-loop μ-loop → tie.In-loop Inv-loop μ-loop
+turn c = farther c .before .before
 
-abbrev named : tie.After-slice-known2 Inv-loop μ-loop → tie.After-of3 Inv-loop μ-loop
+abbrev named : tie.After-slice-known2 Inv-loop μ-loop → tie.After-of Inv-loop μ-loop
 named c = c .before .before .before .before
 
-abbrev start : tie.After-of3 Inv-loop μ-loop → tie.Start Inv-loop μ-loop
+abbrev start : tie.After-of Inv-loop μ-loop → tie.Start Inv-loop μ-loop
 start c = entry (turn c .before)
 
 -- ---- what is known there
@@ -66,23 +65,26 @@ inside : (c : tie.In-loop Inv-loop μ-loop) → CornersIn (entry (c .before)) (n
 inside c = omega (arith, entry (c .before) .pre .0 .inside, c .loop-test .taken)
 
 -- its first edge, its far side, its case and its faces
-its-edge : (c : tie.After-of3 Inv-loop μ-loop) → c .of3 .result .0 ≡ edge (node (turn c .before)) 0
-its-edge c = c .of3 .ensures ∙ ap (λ (n : ℕ). edge n 0) (c .before .of2 .ensures)
+its-edge : (c : tie.After-of Inv-loop μ-loop) → c .of .result .0 ≡ edge (node (turn c .before)) 0
+its-edge c = c .of .ensures ∙ ap (λ (n : ℕ). edge n 0) (c .before .after2 .ensures)
 
-its-far : (c : tie.After-of3 Inv-loop μ-loop) → farther c .side-of2 .result ≡ side (start c) (node (turn c .before) + 1)
-its-far c = farther c .side-of2 .ensures ∙ ap (side (start c)) (farther c .before .of .ensures)
+its-far : (c : tie.After-of Inv-loop μ-loop) → farther c .side-of2 .result ≡ side (start c) (node (turn c .before) + 1)
+its-far c =
+    let far = farther c .before .after in
+    let next : far .result .0 ≡ node (turn c .before) + 1 = omega (arith, far .ensures) in
+    farther c .side-of2 .ensures ∙ ap (side (start c)) next
 
-abbrev case-read : tie.After-of3 Inv-loop μ-loop → ℕ
+abbrev case-read : tie.After-of Inv-loop μ-loop → ℕ
 case-read c = turn c .before .loop .near + 16 * farther c .side-of2 .result
 
-its-case : (c : tie.After-of3 Inv-loop μ-loop) → case-read c ≡ case-of (start c) (node (turn c .before))
+its-case : (c : tie.After-of Inv-loop μ-loop) → case-read c ≡ case-of (start c) (node (turn c .before))
 its-case c =
     let a = start c .args in two-sides (a .values .now) (a .ny) (a .nz) (a .iso) (node (turn c .before)) _ _ (turn c .before .loop .inv .2) (its-far c)
 
-its-faces : (c : tie.After-of3 Inv-loop μ-loop) → rowFaces (start c .args .offsets .now) (c .of3 .result .0) (case-read c) ≡ faces-of (start c) (node (turn c .before))
+its-faces : (c : tie.After-of Inv-loop μ-loop) → rowFaces (start c .args .offsets .now) (c .of .result .0) (case-read c) ≡ faces-of (start c) (node (turn c .before))
 its-faces c = let a = start c .args in cell-faces (a .values .now) (a .ny) (a .nz) (a .iso) _ _ _ _ (start c .pre .1) (its-edge c) (its-case c)
 
-small : (c : tie.After-of3 Inv-loop μ-loop) → case-read c < 256
+small : (c : tie.After-of Inv-loop μ-loop) → case-read c < 256
 small c = let a = start c .args in subst (λ (n : ℕ). n < 256) (sym (its-case c)) (case-below (a .values .now) (a .ny) (a .nz) (a .iso) _)
 
 -- ---- the needs
@@ -99,26 +101,20 @@ loop-holds c =
 add-loop : tie.Need-add-loop Inv-loop μ-loop
 add-loop c = omega (arith, c .loop .inv .3, entry c .pre .0 .inside, entry c .pre .0 .most)
 
-add-of : tie.Need-add-of Inv-loop μ-loop
-add-of c = omega (arith, inside (c .before), entry (c .before .before) .pre .0 .most)
+add-after : tie.Need-add-after Inv-loop μ-loop
+add-after c = omega (arith, inside c, entry (c .before) .pre .0 .most)
 
-add-of-2 : tie.Need-add-of-2 Inv-loop μ-loop
-add-of-2 c = omega (arith, inside (c .before), entry (c .before .before) .pre .0 .most)
-
-of-requires : tie.Need-of-requires Inv-loop μ-loop
-of-requires c κs = search needs
+after-requires : tie.Need-after-requires Inv-loop μ-loop
+after-requires c κs = omega (arith, inside c, entry (c .before) .pre .0 .most)
 
 side-of-requires-2 : tie.Need-side-of-requires-2 Inv-loop μ-loop
-side-of-requires-2 c κs = omega (arith, c .of .ensures, inside (c .before .before))
+side-of-requires-2 c κs = omega (arith, c .after .ensures, inside (c .before))
 
-add-of-3 : tie.Need-add-of-3 Inv-loop μ-loop
-add-of-3 c = let t = c .before .before .before .before in omega (arith, inside t, entry (t .before) .pre .0 .most)
+after-requires-2 : tie.Need-after-requires-2 Inv-loop μ-loop
+after-requires-2 c κs = let t = c .before .before in omega (arith, inside t, entry (t .before) .pre .0 .most)
 
-of-requires-2 : tie.Need-of-requires-2 Inv-loop μ-loop
-of-requires-2 c κs = search needs
-
-of-requires-3 : tie.Need-of-requires-3 Inv-loop μ-loop
-of-requires-3 c κs = let t = c .before .before .before .before .before in (omega (arith, c .of2 .ensures, inside t, entry (t .before) .pre .0 .most), omega arith)
+of-requires : tie.Need-of-requires Inv-loop μ-loop
+of-requires c κs = let t = c .before .before .before in (omega (arith, c .after2 .ensures, inside t, entry (t .before) .pre .0 .most), omega arith)
 
 mul-number-cell : tie.Need-mul-number-cell Inv-loop μ-loop
 mul-number-cell c = omega (arith, small (c .before))
@@ -172,13 +168,11 @@ number-cells-spec =
     side-of-requires
     loop-holds
     add-loop
-    add-of
-    add-of-2
-    of-requires
+    add-after
+    after-requires
     side-of-requires-2
-    add-of-3
-    of-requires-2
-    of-requires-3
+    after-requires-2
+    of-requires
     mul-number-cell
     add-number-cell
     number-cell-requires

@@ -1,8 +1,7 @@
 -- The table is cleared, so it is that of no edge; all planes are numbered, and what they leave is the definition's (`counted-all`).
-use mathlib.Core.Path.{_≡_, sym, subst, _∙_, ap}
+use mathlib.Core.Path.{_≡_, subst, _∙_, ap}
 use mathlib.Core.List.{List}
-use Prim.Native.Nat.{ℕ, _*_, _-_}
-use native.Mathlib.Omega.{arith}
+use Prim.Native.Nat.{ℕ, _-_}
 use lib.ListN.{length, length-replicate}
 use Rattle.cells.specs.Extraction.{countX, countY, countZ}
 use Rattle.cells.specs.CellWords.{blockFaces}
@@ -18,7 +17,7 @@ abbrev entry : tie.After-clear-u32 → tie.Start
 entry c = c .before .before .before .before .before .before
 
 abbrev cleared : tie.After-triangles → tie.After-clear-u32
-cleared c = c .before .before .before .before .before .before .before .before
+cleared c = c .before .before .before .before .before
 
 -- ---- the needs
 
@@ -31,29 +30,13 @@ triangle-table-requires c κs = search needs
 clear-u32-requires : tie.Need-clear-u32-requires
 clear-u32-requires c κs = search needs
 
-element-copy-out-number-planes : tie.Need-element-copy-out-number-planes
-element-copy-out-number-planes c = search needs
-
-element-copy-out-number-planes-2 : tie.Need-element-copy-out-number-planes-2
-element-copy-out-number-planes-2 c = search needs
-
-element-copy-out-number-planes-3 : tie.Need-element-copy-out-number-planes-3
-element-copy-out-number-planes-3 c = search needs
-
 number-planes-requires : tie.Need-number-planes-requires
 number-planes-requires c κs =
     let d = cleared c in
     let s = entry d in
     let t = s .args .table .now in
     let m : length (d .clear-u32 .last .0) ≡ length t = ap length (d .clear-u32 .ensures) ∙ length-replicate (length t) 0 in (
-      record {
-        two = s .pre .counts .two-z;
-        rows = s .pre .counts .two-y;
-        planes = s .pre .counts .two-x;
-        inside = s .pre .nodes;
-        edges = m ∙ s .pre .edges ∙ ap (λ (n : ℕ). 3 * n) (sym (s .pre .nodes));
-        most = omega (arith, s .pre .nodes, s .pre .counts .most);
-      },
+      record { counts = s .pre .counts; nodes = s .pre .nodes; edges = m ∙ s .pre .edges },
       d .before .before .before .edge-offsets .ensures,
       d .before .before .triangle-table .ensures,
     )
@@ -67,8 +50,8 @@ returns c =
     let s = entry d in
     let a = s .args in
     let m = c .before .before .number-planes in
-    let block = blockFaces (a .values .now) (countY (a .t2)) (countZ (a .t2)) (a .iso) (countX (a .t2) - 1) in
-    counted-all (a .values .now) (a .t2) (a .iso) (s .pre .counts) (length (a .table .now)) (m .last .0) (m .result) (s .pre .edges)
+    let block = blockFaces (a .values .now) (countY (a .lattice)) (countZ (a .lattice)) (a .iso) (countX (a .lattice) - 1) in
+    counted-all (a .values .now) (a .lattice) (a .iso) (s .pre .counts) (length (a .table .now)) (m .last .0) (m .result) (s .pre .edges)
     (subst (λ (t : List ℕ). Numbered t (m .last .0) none (m .result) block) (d .clear-u32 .ensures) (m .ensures))
 
 pub number-edges-spec : {M : Type 1} → statement M
@@ -78,9 +61,6 @@ number-edges-spec =
     edge-offsets-requires
     triangle-table-requires
     clear-u32-requires
-    element-copy-out-number-planes
-    element-copy-out-number-planes-2
-    element-copy-out-number-planes-3
     number-planes-requires
     same-length
     returns)

@@ -1,11 +1,14 @@
--- After j turns the first j lines are numbered. The next line lies inside (`inside`), and with few numbers so far.
-use mathlib.Core.Path.{_∙_, ap}
+-- After j turns the first j lines are numbered. The next line lies inside (`line-inside` of the crate `grid`), and with few numbers so far.
+use mathlib.Core.Path.{sym, ap, _∙_}
 use mathlib.Core.List.{List}
-use Prim.Native.Nat.{ℕ, _+_, _-_, _*_, _<_, _≤_}
-use native.Mathlib.Nat.{mul-le-mul-right, add-mul, one-mul, le-mul-of-pos-right}
+use Prim.Native.Nat.{ℕ, _+_, _-_, _*_, _≤_}
+use native.Mathlib.Nat.{mul-le-mul-right, add-mul, one-mul}
 use native.Mathlib.Omega.{arith}
 use lib.ListN.{length}
 use Rattle.closed.specs.Faces.{Face}
+use Rattle.grid.specs.Grid.{lineStart}
+use Rattle.grid.specs.Rows.{counts-few, line-inside}
+use Rattle.cells.specs.Extraction.{countY, countZ}
 use Rattle.cells.specs.CellWords.{lineFaces, planeFaces}
 use Rattle.numbering.specs.FirstPass.{Numbered, Few}
 use Rattle.numbering.proofs.Marking.{numbered-as, numbered-start, numbered-more-cells, numbered-all, numbered-kept, few-later}
@@ -14,75 +17,81 @@ use Rattle.numbering.proofs.number.number_plane.Statement.{statement}
 use Rattle.numbering.proofs.number.number_plane.Tie as tie
 
 abbrev Inv-loop : tie.InvT-loop
-Inv-loop table₀ values ny nz from iso offsets triangles vertices₀ faces₀ j₀ table vertices faces j =
-    Numbered table₀ table (record { vertices = vertices₀; faces = faces₀ }) (record { vertices = vertices; faces = faces }) (planeFaces values ny nz iso (from .0) j) ×
-    Few (record { vertices = vertices; faces = faces }) (from .0 + j * nz) ×
-    (j + 1 ≤ ny)
+Inv-loop table₀ values i iso offsets triangles lattice ny nz vertices₀ faces₀ j₀ table vertices faces j =
+    Numbered table₀ table (record { vertices = vertices₀; faces = faces₀ }) (record { vertices = vertices; faces = faces })
+    (planeFaces values (countY lattice) (countZ lattice) iso i j) ×
+    Few (record { vertices = vertices; faces = faces }) (lineStart (countY lattice) (countZ lattice) i j) ×
+    (j + 1 ≤ countY lattice)
 
 abbrev μ-loop : tie.MeasureT-loop
-μ-loop table₀ values ny nz from iso offsets triangles vertices₀ faces₀ j₀ table vertices faces j = ny - j
+μ-loop table₀ values i iso offsets triangles lattice ny nz vertices₀ faces₀ j₀ table vertices faces j = ny - j
 
 -- ---- the places, and what is known there
 
 abbrev entry : tie.At-loop Inv-loop μ-loop → tie.Start Inv-loop μ-loop
-entry c = c .before .before .before
+entry c = c .before .before .before .before .before
 
-abbrev turn : tie.After-of Inv-loop μ-loop → tie.In-loop Inv-loop μ-loop
-turn c = c .before .before .before
+abbrev turn : tie.After-line-start Inv-loop μ-loop → tie.In-loop Inv-loop μ-loop
+turn c = c .before .before
 
 -- the next line's node was named, seen from the turn's end
-abbrev named : tie.After-slice-known2 Inv-loop μ-loop → tie.After-of Inv-loop μ-loop
+abbrev named : tie.After-slice-known2 Inv-loop μ-loop → tie.After-line-start Inv-loop μ-loop
 named c = c .before .before .before
 
 -- the faces of the line from node n on
 abbrev line : tie.Start Inv-loop μ-loop → ℕ → List Face
-line s n = lineFaces (s .args .values .now) (s .args .ny) (s .args .nz) (s .args .iso) n (s .args .nz - 1)
+line s n = lineFaces (s .args .values .now) (countY (s .args .t3)) (countZ (s .args .t3)) (s .args .iso) n (countZ (s .args .t3) - 1)
 
 -- the line from node n on has both its rows of nodes, and the two of the next plane
-abbrev CornersIn : tie.Start Inv-loop μ-loop → ℕ → Type 0
-CornersIn s n = n + s .args .ny * s .args .nz + s .args .nz + s .args .nz ≤ length (s .args .values .now)
+abbrev RowsIn : tie.Start Inv-loop μ-loop → ℕ → Type 0
+RowsIn s n = n + countY (s .args .t3) * countZ (s .args .t3) + (countZ (s .args .t3) + countZ (s .args .t3)) ≤ length (s .args .values .now)
 
-inside : (c : tie.In-loop Inv-loop μ-loop) → CornersIn (entry (c .before)) (entry (c .before) .args .from .0 + c .before .loop .j * entry (c .before) .args .nz)
+-- so has line j, where neither it nor the plane is the last
+abbrev node : tie.Start Inv-loop μ-loop → ℕ → ℕ
+node s j = lineStart (countY (s .args .t3)) (countZ (s .args .t3)) (s .args .i) j
+
+inside : (c : tie.In-loop Inv-loop μ-loop) → RowsIn (entry (c .before)) (node (entry (c .before)) (c .before .loop .j))
 inside c =
-    let j = c .before .loop .j in
     let s = entry (c .before) in
-    let h : j + 2 ≤ s .args .ny = omega (arith, c .loop-test .taken) in
-    omega (arith, mul-le-mul-right (s .args .nz) h, add-mul j 2 (s .args .nz), s .pre .0 .inside)
+    let rows = line-inside (countZ (s .args .t3)) (s .args .i) (c .before .loop .j) (s .pre .0 .inside) (c .loop-test .taken) in
+    omega (arith, rows, s .pre .0 .all .nodes)
 
--- there are no more lines than nodes
 fewer : (c : tie.At-loop Inv-loop μ-loop) → c .loop .j + 1 ≤ 16777216
-fewer c =
-    let s = entry c in
-    let p : 0 < s .args .nz = omega (arith, s .pre .0 .two) in
-    omega (arith, c .loop .inv .2, le-mul-of-pos-right (s .args .ny) p, s .pre .0 .inside, s .pre .0 .most)
+fewer c = omega (arith, c .loop .inv .2, counts-few (entry c .pre .0 .all .counts) .1)
 
 -- ---- the needs
 
+element-copy-out-ny : tie.Need-element-copy-out-ny Inv-loop μ-loop
+element-copy-out-ny c = search needs
+
+element-copy-out-nz : tie.Need-element-copy-out-nz Inv-loop μ-loop
+element-copy-out-nz c = search needs
+
 loop-holds : tie.Need-loop-holds Inv-loop μ-loop
-loop-holds c = let s = c .before .before in (numbered-start _, few-later (s .pre .0 .few) (omega arith), omega (arith, s .pre .0 .rows))
+loop-holds c =
+    let s = c .before .before .before .before in
+    (numbered-start _, few-later (s .pre .0 .few) (omega arith), omega (arith, s .pre .0 .all .counts .two-y))
 
 add-loop : tie.Need-add-loop Inv-loop μ-loop
 add-loop c = omega (arith, fewer c)
 
-mul-of : tie.Need-mul-of Inv-loop μ-loop
-mul-of c = omega (arith, inside (c .before), entry (c .before .before) .pre .0 .most)
-
-add-of : tie.Need-add-of Inv-loop μ-loop
-add-of c = let t = c .before .before in omega (arith, inside t, entry (t .before) .pre .0 .most)
-
-of-requires : tie.Need-of-requires Inv-loop μ-loop
-of-requires c κs = search needs
+line-start-requires : tie.Need-line-start-requires Inv-loop μ-loop
+line-start-requires c κs =
+    let t = c .before in
+    let s = entry (t .before) in
+    (s .pre .0 .all .counts, (omega (arith, s .pre .0 .inside), omega (arith, t .loop-test .taken)))
 
 number-line-requires : tie.Need-number-line-requires Inv-loop μ-loop
 number-line-requires c κs =
     let l = turn c .before in
-    let s = entry l in (
+    let s = entry l in
+    let all = s .pre .0 .all in (
       record {
-        two = s .pre .0 .two;
-        inside = omega (arith, c .of .ensures, inside (turn c));
-        edges = numbered-kept (l .loop .inv .0) ∙ s .pre .0 .edges;
-        most = s .pre .0 .most;
-        few = few-later (l .loop .inv .1) (omega (arith, c .of .ensures));
+        two = all .counts .two-z;
+        inside = omega (arith, c .line-start .ensures, inside (turn c));
+        edges = numbered-kept (l .loop .inv .0) ∙ all .edges ∙ ap (λ (n : ℕ). 3 * n) (sym (all .nodes));
+        most = omega (arith, all .nodes, all .counts .most);
+        few = few-later (l .loop .inv .1) (omega (arith, c .line-start .ensures));
       },
       s .pre .1,
       s .pre .2,
@@ -98,10 +107,10 @@ loop-again : tie.Need-loop-again Inv-loop μ-loop
 loop-again c =
     let n = named c in
     let l = turn n .before in
-    let nz = entry l .args .nz in
+    let nz = countZ (entry l .args .t3) in
     let o = c .before .before .number-line in (
-      numbered-more-cells _ _ (l .loop .inv .0) (numbered-as (ap (line (entry l)) (n .of .ensures)) (o .ensures .0)),
-      few-later (o .ensures .1) (omega (arith, n .of .ensures, add-mul (l .loop .j) 1 nz, one-mul nz)),
+      numbered-more-cells _ _ (l .loop .inv .0) (numbered-as (ap (line (entry l)) (n .line-start .ensures)) (o .ensures .0)),
+      few-later (o .ensures .1) (omega (arith, n .line-start .ensures, add-mul (l .loop .j) 1 nz, one-mul nz)),
       omega (arith, turn n .loop-test .taken),
     )
 
@@ -112,8 +121,11 @@ returns : tie.Need-returns Inv-loop μ-loop
 returns c =
     let l = c .before .loop in
     let a = entry (c .before) .args in
-    let h : l .j ≤ a .ny = omega (arith, l .inv .2) in
-    (numbered-all _ (omega (arith, l .inv .2, c .loop-test .left)) (l .inv .0), few-later (l .inv .1) (omega (arith, mul-le-mul-right (a .nz) h)))
+    let wide = countY (a .t3) * countZ (a .t3) in
+    let h : l .j ≤ countY (a .t3) = omega (arith, l .inv .2) in (
+      numbered-all _ (omega (arith, l .inv .2, c .loop-test .left)) (l .inv .0),
+      few-later (l .inv .1) (omega (arith, mul-le-mul-right (countZ (a .t3)) h, add-mul (a .i) 1 wide, one-mul wide)),
+    )
 
 pub number-plane-spec : {M : Type 1} → statement M
 number-plane-spec =
@@ -121,11 +133,11 @@ number-plane-spec =
     (tie.spec
     Inv-loop
     μ-loop
+    element-copy-out-ny
+    element-copy-out-nz
     loop-holds
     add-loop
-    mul-of
-    add-of
-    of-requires
+    line-start-requires
     number-line-requires
     add-j
     loop-less

@@ -7,7 +7,7 @@ use native.Mathlib.Omega.{arith}
 use denote.Ref.{now}
 use lib.ListN.{length, getD}
 use lib.Ieee.{Float}
-use Rattle.orientation.specs.Orientation.{vertexCount, coordinate}
+use Rattle.meshes.specs.FlatMesh.{vertexCount, coordinate}
 use Rattle.trim.specs.Passes.{lines, Even, carried, gathered}
 use Rattle.trim.proofs.moving.gather.Statement.{statement}
 use Rattle.trim.proofs.moving.gather.Tie as tie

@@ -6,7 +6,7 @@ use native.Mathlib.Omega.{arith}
 use lib.ListN.{length}
 use lib.Ieee.{Float}
 use denote.Ref.{now}
-use Rattle.orientation.specs.Orientation.{vertexCount}
+use Rattle.meshes.specs.FlatMesh.{vertexCount}
 use Rattle.trim.specs.Passes.{lines, Even, Lists}
 use Rattle.trim.proofs.Lines.{length-lines}
 use Rattle.trim.proofs.Places.{three-axes}

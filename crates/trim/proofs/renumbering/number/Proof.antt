@@ -5,7 +5,7 @@ use Prim.Native.Nat.{_+_, _-_, _*_, _<_}
 use native.Mathlib.Omega.{arith}
 use denote.Ref.{now}
 use lib.ListN.{length}
-use Rattle.orientation.specs.Orientation.{Corners}
+use Rattle.meshes.specs.FlatMesh.{Corners}
 use Rattle.trim.proofs.FirstUse.{Numbering, numbering-none, numbering-corners, numbering-noted, numbering-more, numbering-done}
 use Rattle.trim.proofs.renumbering.number.Statement.{statement}
 use Rattle.trim.proofs.renumbering.number.Tie as tie
