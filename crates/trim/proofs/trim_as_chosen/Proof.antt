@@ -1,8 +1,8 @@
--- `trim::cut` meets its contract: the choice is off or within a distance. Assumes nothing.
+-- `trim::trim_as_chosen` meets its contract: the choice is off or within a distance. Assumes nothing.
 use Rattle.trim.proofs.WithinDistance.{trimmed-off}
 use borrow.Author.Needs.{needs}
-use Rattle.trim.proofs.cut.Statement.{statement}
-use Rattle.trim.proofs.cut.Tie as tie
+use Rattle.trim.proofs.trim_as_chosen.Statement.{statement}
+use Rattle.trim.proofs.trim_as_chosen.Tie as tie
 
 enum-told : tie.Need-enum-told
 enum-told c = search needs
@@ -37,8 +37,8 @@ same-length-6 c = search needs
 returns-2 : tie.Need-returns-2
 returns-2 c = rw (c .before .before .before .before .before .before .before .before .before .before .before .before .before .before .before .before .before .before .before .before .trimming .given .1) (c .before .before .before .before .before .before .before .before .before .before .before .before .trim-within .ensures)
 
-pub cut-spec : {M : Type 1} → statement M
-cut-spec =
+pub trim-as-chosen-spec : {M : Type 1} → statement M
+trim-as-chosen-spec =
     tie.close
     (tie.spec
     enum-told
