@@ -1,19 +1,18 @@
 -- That the results stand at the front of the slices: of a refusal, in any slices, for it has none; of a mesh, where the slices begin with it. Assumes nothing.
-use mathlib.Core.Path.{_≡_, refl, sym, ap, _∙_, subst}
+use mathlib.Core.Path.{_≡_, refl, sym, ap, _∙_}
 use mathlib.Core.Bool.{Bool, true, false, cond}
-use mathlib.Core.List.{List, [], _∷_, _++_}
-use Prim.Native.Nat.{ℕ, _+_, _-_, _*_, _/_, _≤_}
+use mathlib.Core.List.{List, []}
+use Prim.Native.Nat.{ℕ, _*_, _≤_}
 use native.Mathlib.Omega.{arith}
-use lib.ListN.{length, take, drop}
+use lib.ListN.{length, take}
 use lib.Ieee.{Float}
-use Rattle.closed.specs.Faces.{Face, corners}
+use Rattle.closed.specs.Faces.{corners}
 use Rattle.closed.specs.Turning.{length-corners}
 use Rattle.points.specs.declared.point.Point.{Point}
 use Rattle.settings.specs.declared.Settings.{Settings}
 use Rattle.settings.specs.declared.Answer.{Answer}
 use Rattle.settings.specs.declared.Verdict.{Verdict}
 use Rattle.settings.specs.Answers.{accepts, refused, answerUnder}
-use Rattle.orientation.specs.Orientation.{vertexCount}
 use Rattle.scan.specs.Reconstruction.{acceptedAnswer, keptVertices, keptFaces, resultsUnder}
 use Rattle.poisson.specs.Inner.{Shown}
 

@@ -5,12 +5,16 @@ use native.Mathlib.Omega.{arith}
 use Rattle.ending.specs.OneOutcome.{OneOutcome, same, _&_}
 use Rattle.scan.proofs as fn
 
-pub grid-for : OneOutcome fn.grid_for.ended fn.grid_for.Reads.Post
-grid-for κs args o o′ p q = same (p .is) (q .is) & refl
+pub check-points : OneOutcome fn.check_points.ended fn.check_points.Reads.Post
+check-points κs args o o′ p q = same p q & refl
+
+pub make-grid : OneOutcome fn.make_grid.ended fn.make_grid.Reads.Post
+make-grid κs args o o′ p q = same (p .is) (q .is) & refl
 
 pub field-and-level : OneOutcome fn.field_and_level.ended fn.field_and_level.Reads.Post
 field-and-level κs args o o′ p q =
     same (p .level-is) (q .level-is)
+    & refl
     & refl
     & refl
     & refl
@@ -24,30 +28,8 @@ field-and-level κs args o o′ p q =
     & same (p .no-distances) (q .no-distances)
     & refl
 
-pub prepare : OneOutcome fn.prepare.ended fn.prepare.Reads.Post
-prepare κs args o o′ p q =
-    (λ i.
-    record {
-      level = same (p .solved .level-is) (q .solved .level-is) i;
-      vertices = same (p .vertices-are) (q .vertices-are) i;
-      faces = same (p .faces-are) (q .faces-are) i;
-    })
-    & refl
-    & refl
-    & refl
-    & same (p .solved .field) (q .solved .field)
-    & same (p .solved .zero1) (q .solved .zero1)
-    & same (p .solved .zero2) (q .solved .zero2)
-    & same (p .solved .zero3) (q .solved .zero3)
-    & same (p .solved .zero4) (q .solved .zero4)
-    & same (p .solved .zero5) (q .solved .zero5)
-    & same (p .solved .zero6) (q .solved .zero6)
-    & same (p .numbers) (q .numbers)
-    & same (p .solved .no-distances) (q .solved .no-distances)
-    & refl
-
-pub draw : OneOutcome fn.draw.ended fn.draw.Reads.Post
-draw κs args o o′ p q =
+pub make-mesh : OneOutcome fn.make_mesh.ended fn.make_mesh.Reads.Post
+make-mesh κs args o o′ p q =
     let v : o .0 .vertices ≡ o′ .0 .vertices = omega (arith, p .vertex-count, q .vertex-count) in
     let f : o .0 .faces ≡ o′ .0 .faces = same (sym (p .face-count)) (sym (q .face-count)) in
     (λ i. record { vertices = v i; faces = f i })
@@ -64,5 +46,5 @@ draw κs args o o′ p q =
     & same (p .no-numbers) (q .no-numbers)
     & refl
 
-pub conclude : OneOutcome fn.conclude.ended fn.conclude.Reads.Post
-conclude κs args o o′ p q = same p q & refl
+pub make-answer : OneOutcome fn.make_answer.ended fn.make_answer.Reads.Post
+make-answer κs args o o′ p q = same p q & refl
