@@ -15,7 +15,7 @@ use Rattle.settings.specs.Settings.{defaults}
 use Rattle.ending.specs.Slices.{Slices, FieldSlices}
 use Rattle.scan.specs.Reconstruction.{Results}
 use Rattle.scan.specs.FieldAlone.{FieldResults}
-use Rattle.alone.specs.Outcome.{FieldDone}
+use Rattle.field_call.specs.Outcome.{FieldDone}
 use Rattle.poisson.specs.Outcome.{Done}
 
 -- ---- in

@@ -17,7 +17,7 @@ use Rattle.settings.specs.Passed.{passed, number-under}
 use Rattle.ending.specs.Slices.{Slices, FieldSlices}
 use Rattle.scan.specs.Reconstruction.{Results, keptVertices, keptFaces, lengthsOf, verdictOf, acceptedAnswer, resultsUnder, reconstructed}
 use Rattle.scan.specs.FieldAlone.{FieldResults, fieldLengths, fieldVerdict, fieldAnswer, fieldUnder, fieldResults}
-use Rattle.alone.specs.Outcome.{fieldOf}
+use Rattle.field_call.specs.Outcome.{fieldOf}
 use Rattle.demands.specs.Call.{Meets, FieldMeets}
 use Rattle.demands.specs.Demand2.{Demand2, Demand2Field}
 

@@ -1,5 +1,5 @@
 -- The two calls as the demands speak of them: what the contract says of a call on the points xs and the settings st that was lent the slices `before`,
--- answered r, and left the slices `after`. The contracts are those in the sources of `poisson` and `alone`. Definitions only; assumes nothing.
+-- answered r, and left the slices `after`. The contracts are those in the sources of `poisson` and `field_call`. Definitions only; assumes nothing.
 use mathlib.Core.List.{List}
 use lib.Ieee.{Float}
 use Rattle.settings.specs.declared.Settings.{Settings}
@@ -7,7 +7,7 @@ use Rattle.settings.specs.declared.Answer.{Answer}
 use Rattle.ending.specs.Slices.{Slices, FieldSlices}
 use Rattle.scan.specs.Reconstruction.{reconstructed}
 use Rattle.scan.specs.FieldAlone.{fieldResults}
-use Rattle.alone.specs.Outcome.{FieldDone}
+use Rattle.field_call.specs.Outcome.{FieldDone}
 use Rattle.poisson.specs.Outcome.{Done}
 
 -- of `poisson_reconstruction`, and with `defaults` for the settings of `poisson_reconstruction_default`

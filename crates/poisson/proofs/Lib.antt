@@ -1,5 +1,5 @@
 -- What the proofs of the call's functions share.
 pub mod Order
 pub mod Showing
-pub mod Finishing
+pub mod Results
 pub mod OneAnswer

@@ -1,4 +1,5 @@
--- The verdict in the groups in which the code asks for it: the checks before any slice is touched, those of the untrimmed mesh, the last. By the grouping law of `then`. Assumes nothing.
+-- The verdict in the groups in which the code asks for it: the checks before any slice is touched, those of the untrimmed mesh, the last. By the grouping
+-- law of `then`. Assumes nothing.
 use mathlib.Core.Path.{_≡_, sym, ap, _∙_}
 use mathlib.Core.List.{List}
 use lib.ListN.{length}
@@ -24,7 +25,8 @@ first-checks xs st lent =
     sym (then-assoc e (u then x) l ∙ ap (λ (v : Verdict). e then v) (then-assoc u x l))
 
 pub late-checks : (ps : List Point) (st : Settings) (lent : Lengths)
-    → lateVerdict ps st lent ≡ (roomVerdict (vertexTotal ps st) (faceTotal ps st) lent then meshVerdict (faceTotal ps st)) then meshVerdict (length (keptFaces ps st))
+    → lateVerdict ps st lent
+    ≡ (roomVerdict (vertexTotal ps st) (faceTotal ps st) lent then meshVerdict (faceTotal ps st)) then meshVerdict (length (keptFaces ps st))
 unfolding lateVerdict
 late-checks ps st lent =
     let a = vertexRoomVerdict (vertexTotal ps st) lent in

@@ -1,26 +1,27 @@
 // Document 01, the whole call, beside `poisson_reconstruction` and `poisson_reconstruction_default` of the Rust's poisson.rs: the checks in their order, the
 // stages, and one ending that clears what is unused. "For every bit pattern of points and settings the call ends and stays inside the slices it was lent.
-// The caller checks nothing first": nothing is required. The crate `alone` has the call that stops at the level.
-pub use alone::poisson_field;
+// The caller checks nothing first": nothing is required. The crate `field_call` has the call that stops at the level.
+pub use field_call::poisson_field;
 ghost use mathlib.Core.Path.{_≡_};
-ghost use Prim.Native.Nat.{_*_, _<_};
+ghost use Prim.Native.Nat.{_*_, _^_, _<_};
 ghost use lib.ListN.{length};
 ghost use Rattle.points.specs.Points.{usables};
 ghost use Rattle.settings.specs.Settings.{defaults};
 ghost use Rattle.settings.specs.Refusals.{_then_, earlyVerdict, usableVerdict, extentVerdict, roomVerdict, meshVerdict};
 ghost use Rattle.scan.specs.Reconstruction.{lengthsOf, extentFor, lateVerdict, resultsUnder, reconstructed};
+ghost use Rattle.scan.specs.Stages.{Lent};
 ghost use Rattle.poisson.specs.Outcome.{Done};
-ghost use Rattle.poisson.specs.Inner.{Shown, Workable, Finishable};
-use grid::Grid;
+ghost use Rattle.poisson.specs.Inner.{Shown};
+use meshes::MeshSize;
 use points::Bounds;
-use scan::Found;
 use settings::Answer;
 use settings::Lengths;
 use settings::Settings;
 use settings::Verdict;
 
-// 7, 1, 2, 3, 8, 4, 5: the checks before any slice is touched.
-fn inspect(points: &[f32], settings: Settings, lengths: Lengths) -> Verdict
+// The checks before any slice is touched, in 01's order. 7: "point slice not a multiple of six, or over 1,048,576 points". 1: "no points". 2: "depth below 3
+// or above 8". 3: "smoothing NaN, zero or negative". 8: "a scratch slice is shorter than stated". Then 4 and 5, of the points.
+fn check(points: &[f32], settings: Settings, lengths: Lengths) -> Verdict
     ensures { λ r. ⌜ r ≡ earlyVerdict (now (points .entry)) settings lengths
         then usableVerdict (length (usables (now (points .entry))))
         then extentVerdict (extentFor (usables (now (points .entry)))) ⌝ }
@@ -29,70 +30,24 @@ fn inspect(points: &[f32], settings: Settings, lengths: Lengths) -> Verdict
     let Verdict::Pass = early else {
         return early;
     };
-    alone::enough(points)
+    scan::check_points(points)
 }
 
-// 9 and 10, then 6 before trimming.
-fn late(found: Found, lengths: Lengths) -> Verdict
-    requires { ⌜ (found .vertices < 1000000000) × (found .faces < 1000000000) ⌝ }
-    ensures { λ r. ⌜ r ≡ roomVerdict (found .vertices) (found .faces) lengths then meshVerdict (found .faces) ⌝ }
+// The checks of the untrimmed mesh, once V and F are counted. 9: "vertex slice shorter than 3V". 10: "face slice shorter than 3F". 6: "no face, before ..
+// trimming".
+fn check_mesh(counts: MeshSize, lengths: Lengths) -> Verdict
+    requires { ⌜ (counts .vertices < 1000000000) × (counts .faces < 1000000000) ⌝ }
+    ensures { λ r. ⌜ r ≡ roomVerdict (counts .vertices) (counts .faces) lengths then meshVerdict (counts .faces) ⌝ }
 {
-    let room = settings::room_verdict(found.vertices, found.faces, lengths);
+    let room = settings::room_verdict(counts.vertices, counts.faces, lengths);
     let Verdict::Pass = room else {
         return room;
     };
-    settings::mesh_verdict(found.faces)
+    settings::mesh_verdict(counts.faces)
 }
 
-// The mesh, if there is room for it, and the answer.
-fn finish(
-    points: &[f32],
-    settings: Settings,
-    lengths: Lengths,
-    g: Grid,
-    found: Found,
-    vertices: &mut [f32],
-    faces: &mut [u32],
-    field: &[f32],
-    a: &mut [f32],
-    b: &mut [f32],
-    c: &mut [f32],
-    edges: &mut [u32],
-) -> Answer
-    requires { ⌜ Finishable (usables (now points)) settings lengths g found (now vertices) (now faces) (now field) (now a) (now b) (now c) (now edges) ⌝ }
-    ensures { λ r. ⌜ Shown (resultsUnder (lateVerdict (usables (now (points .entry))) settings lengths) (usables (now (points .entry))) settings)
-        r (now (vertices .exit)) (now (faces .exit)) ⌝ }
-{
-    let verdict = late(found, lengths);
-    let Verdict::Pass = verdict else {
-        return Answer::refused(verdict);
-    };
-    let v = 3 * found.vertices;
-    let w = 3 * found.faces;
-    let size = scan::draw(
-        points,
-        settings,
-        g,
-        found.level,
-        &mut vertices[..v],
-        &mut faces[..w],
-        field,
-        a,
-        b,
-        c,
-        edges,
-    );
-    let k = 3 * size.vertices;
-    scan::conclude(
-        points::usable_count(points),
-        found.level,
-        size.faces,
-        &vertices[..k],
-    )
-}
-
-// The stages, in slices of exactly the stated lengths.
-fn work(
+// The stages as the definition has them, in scratch of exactly the stated lengths: grid, field and level, counts, mesh, answer.
+fn reconstruct(
     points: &[f32],
     settings: Settings,
     lengths: Lengths,
@@ -108,16 +63,18 @@ fn work(
     edges: &mut [u32],
     distances: &mut [f32],
 ) -> Answer
-    requires { ⌜ Workable (now points) settings lengths (now vertices) (now faces)
-        (now s0) (now s1) (now s2) (now s3) (now s4) (now s5) (now s6) (now edges) (now distances) ⌝ }
+    requires { ⌜ Lent (now points) settings (now s0) (now s1) (now s2) (now s3) (now s4) (now s5) (now s6) (now distances) ⌝ }
+    requires { ⌜ (length (now edges) ≡ 3 * 8 ^ settings .depth) × (lengths .vertices ≡ length (now vertices)) × (lengths .faces ≡ length (now faces)) ⌝ }
     ensures { λ r. ⌜ Shown (resultsUnder (lateVerdict (usables (now (points .entry))) settings lengths) (usables (now (points .entry))) settings)
         r (now (vertices .exit)) (now (faces .exit)) ⌝ }
 {
     let bounds = Bounds::of(points);
-    let found = scan::prepare(
+    let g = scan::make_grid(bounds, settings);
+    let level = scan::field_and_level(
         points,
         settings,
         bounds,
+        g,
         s0,
         s1,
         s2,
@@ -125,28 +82,39 @@ fn work(
         s4,
         s5,
         s6,
-        edges,
         distances,
     );
-    let g = scan::grid_for(bounds, settings);
-    finish(
+    let counts = extract::number_edges(s0, g.lattice(), level, edges);
+    let verdict = check_mesh(counts, lengths);
+    let Verdict::Pass = verdict else {
+        return Answer::refused(verdict);
+    };
+    let v = 3 * counts.vertices;
+    let w = 3 * counts.faces;
+    let size = scan::make_mesh(
         points,
         settings,
-        lengths,
         g,
-        found,
-        vertices,
-        faces,
+        level,
+        &mut vertices[..v],
+        &mut faces[..w],
         s0,
         s1,
         s2,
         s3,
         edges,
+    );
+    let k = 3 * size.vertices;
+    scan::make_answer(
+        points::usable_count(points),
+        level,
+        size.faces,
+        &vertices[..k],
     )
 }
 
-// The checks, and then the stages. A refusal leaves the slices as it found them, or as the stages left them.
-fn attempt(
+// A refusal of the checks, or the stages. A refusal leaves the slices as it found them, or as the stages left them.
+fn refuse_or_reconstruct(
     points: &[f32],
     settings: Settings,
     vertices: &mut [f32],
@@ -196,13 +164,13 @@ fn attempt(
         edges: edges.len(),
         distances: distances.len(),
     };
-    let verdict = inspect(points, settings, lengths);
+    let verdict = check(points, settings, lengths);
     let Verdict::Pass = verdict else {
         return Answer::refused(verdict);
     };
     let n = settings::nodes(settings.depth);
     let m = 3 * n;
-    work(
+    reconstruct(
         points,
         settings,
         lengths,
@@ -268,7 +236,7 @@ pub fn poisson_reconstruction(
           };
         }) ⌝ }
 {
-    let answer = attempt(
+    let answer = refuse_or_reconstruct(
         points,
         settings,
         vertices,

@@ -1,4 +1,5 @@
--- What the proofs of the stages share.
-pub mod Preparing
-pub mod Drawing
+-- What the proofs of the stages and of the two calls share.
+pub mod PutTogether
+pub mod MeshMade
+pub mod ExactParts
 pub mod OneAnswer

@@ -11,13 +11,13 @@ use Rattle.grid.specs.declared.Grid.{Grid}
 use Rattle.grid.specs.Grid.{Sides, gridOf, allNodes}
 use Rattle.points.specs.declared.point.Point.{Point}
 use Rattle.points.specs.declared.bounds.Bounds.{Bounds}
+use Rattle.points.specs.Points.{given}
 use Rattle.points.specs.Box.{sideOf, originOf}
 use Rattle.settings.specs.declared.Settings.{Settings}
 use Rattle.settings.specs.declared.Answer.{Answer}
 use Rattle.settings.specs.Answers.{answerUnder}
 use Rattle.settings.specs.Refusals.{meshVerdict}
 use Rattle.numbering.specs.FirstPass.{edgeTable}
-use Rattle.scan.specs.declared.Found.{Found}
 use Rattle.meshes.specs.declared.MeshSize.{MeshSize}
 use Rattle.scan.specs.Reconstruction.{gridFor, latticeFor, fieldFor, levelFor, vertexTotal, faceTotal, keptVertices, keptFaces, meshAnswer}
 
@@ -26,16 +26,19 @@ pub record GridOver (b : Bounds) (st : Settings) (g : Grid) : Type 0 where
   pub is : g ≡ gridOf (originOf b) (sideOf b) (st .depth)
   pub sides : Sides (g .nodes)
 
--- scratch for n nodes and so many given points
-pub record Lent (n points : ℕ) (s0 s1 s2 s3 s4 s5 s6 distances : List Float) : Type 0 where
-  pub size0 : length s0 ≡ n
-  pub size1 : length s1 ≡ n
-  pub size2 : length s2 ≡ n
-  pub size3 : length s3 ≡ n
-  pub size4 : length s4 ≡ n
-  pub size5 : length s5 ≡ n
-  pub size6 : length s6 ≡ n
-  pub enough : points ≤ length distances
+-- settings and points that passed the checks, and scratch of exactly the stated lengths: N = 8^depth values, and a distance a given point
+pub record Lent (xs : List Float) (st : Settings) (s0 s1 s2 s3 s4 s5 s6 distances : List Float) : Type 0 where
+  pub deep : 3 ≤ st .depth
+  pub shallow : st .depth ≤ 8
+  pub few : given xs ≤ 1048576
+  pub size0 : length s0 ≡ 8 ^ st .depth
+  pub size1 : length s1 ≡ 8 ^ st .depth
+  pub size2 : length s2 ≡ 8 ^ st .depth
+  pub size3 : length s3 ≡ 8 ^ st .depth
+  pub size4 : length s4 ≡ 8 ^ st .depth
+  pub size5 : length s5 ≡ 8 ^ st .depth
+  pub size6 : length s6 ≡ 8 ^ st .depth
+  pub enough : given xs ≤ length distances
 
 -- the level, the field in the first slice, and zeros
 pub record Solved (ps : List Point) (st : Settings) (level : Float)
@@ -50,16 +53,8 @@ pub record Solved (ps : List Point) (st : Settings) (level : Float)
   pub zero6 : s6′ ≡ zeros32 (8 ^ st .depth)
   pub no-distances : distances′ ≡ zeros32 (length distances)
 
--- besides, V and F, and the numbers of the crossed edges in the table
-pub record Prepared (ps : List Point) (st : Settings) (r : Found)
-    (s0′ s1′ s2′ s3′ s4′ s5′ s6′ : List Float) (edges′ : List ℕ) (distances distances′ : List Float) : Type 0 where
-  pub solved : Solved ps st (r .level) s0′ s1′ s2′ s3′ s4′ s5′ s6′ distances distances′
-  pub vertices-are : r .vertices ≡ vertexTotal ps st
-  pub faces-are : r .faces ≡ faceTotal ps st
-  pub numbers : edges′ ≡ edgeTable (fieldFor ps st) (latticeFor ps st) (levelFor ps st)
-
--- what the drawing asks: all that was prepared, and slices of exactly 3V and 3F
-pub record Drawable (ps : List Point) (st : Settings) (g : Grid) (level : Float)
+-- what the mesh asks: the grid, the field and the level, the numbers of the crossed edges, and slices of exactly 3V and 3F
+pub record MeshAsked (ps : List Point) (st : Settings) (g : Grid) (level : Float)
     (vs : List Float) (fs : List ℕ) (s0 a b c : List Float) (edges : List ℕ) : Type 0 where
   pub grid : g ≡ gridFor ps st
   pub sides : Sides (g .nodes)
@@ -75,7 +70,7 @@ pub record Drawable (ps : List Point) (st : Settings) (g : Grid) (level : Float)
   pub numbers : edges ≡ edgeTable (fieldFor ps st) (latticeFor ps st) (levelFor ps st)
 
 -- the mesh that is returned at the front of its slices, zeros past it and in the scratch, and its size
-pub record Drawn (ps : List Point) (st : Settings) (r : MeshSize)
+pub record MeshMade (ps : List Point) (st : Settings) (r : MeshSize)
     (vs vs′ : List Float) (fs fs′ : List ℕ) (a a′ b b′ c c′ : List Float) (edges edges′ : List ℕ) : Type 0 where
   pub vertex-count : length (keptVertices ps st) ≡ 3 * r .vertices
   pub face-count : length (keptFaces ps st) ≡ r .faces
@@ -87,6 +82,6 @@ pub record Drawn (ps : List Point) (st : Settings) (r : MeshSize)
   pub no-numbers : edges′ ≡ zerosU (length edges)
 
 -- 6 where there is no face, or the answer of an accepted call
-unfoldable pub concluded : (usable : ℕ) (level : Float) (faces : ℕ) (vertices : List Float) → Answer
-concluded usable level faces vertices =
+unfoldable pub trimmedAnswer : (usable : ℕ) (level : Float) (faces : ℕ) (vertices : List Float) → Answer
+trimmedAnswer usable level faces vertices =
     answerUnder (meshVerdict faces) (meshAnswer usable level faces vertices)

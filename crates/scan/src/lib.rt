@@ -1,13 +1,14 @@
-// Document 01, the stages between the checks and the answer, in the order of the data's way; the middle of `poisson_reconstruction` in the Rust's poisson.rs.
-// `field_and_level` goes as far as its name says; `prepare` goes on until V and F are known, so that a caller can refuse before anything is written; `draw`
-// makes the mesh; `conclude` makes the answer of it.
-// Lent slices have exactly the stated lengths here.
+// Document 01, the stages of a call in the order of the data's way; the middle of `poisson_reconstruction` in the Rust's poisson.rs. What the two calls take
+// from below: the checks of the points, the grid, which is made once, and the field with its level; then what only the whole call needs, the mesh and the
+// answer. Lent slices have exactly the stated lengths here.
 ghost use mathlib.Core.Path.{_≡_};
-ghost use Prim.Native.Nat.{_*_, _^_, _≤_};
+ghost use Prim.Native.Nat.{_≤_};
 ghost use lib.ListN.{length};
-ghost use Rattle.points.specs.Points.{given, usables};
+ghost use Rattle.points.specs.Points.{usables};
 ghost use Rattle.points.specs.Box.{boundsOf};
-ghost use Rattle.scan.specs.Stages.{GridOver, Lent, Solved, Prepared, Drawable, Drawn, concluded};
+ghost use Rattle.settings.specs.Refusals.{_then_, usableVerdict, extentVerdict};
+ghost use Rattle.scan.specs.Reconstruction.{extentFor};
+ghost use Rattle.scan.specs.Stages.{GridOver, Lent, Solved, MeshAsked, MeshMade, trimmedAnswer};
 use grid::Grid;
 use levels::Problem;
 use meshes::MeshSize;
@@ -16,15 +17,19 @@ use settings::Answer;
 use settings::Settings;
 use settings::Verdict;
 
-// The level, and V and F of the untrimmed mesh.
-pub struct Found {
-    pub level: f32,
-    pub vertices: usize,
-    pub faces: usize,
+// What the points themselves tell. 4: "fewer than 10 usable points". 5: "largest extent is zero".
+pub fn check_points(points: &[f32]) -> Verdict
+    ensures { λ r. ⌜ r ≡ usableVerdict (length (usables (now (points .entry)))) then extentVerdict (extentFor (usables (now (points .entry)))) ⌝ }
+{
+    let count = settings::usable_verdict(points::usable_count(points));
+    let Verdict::Pass = count else {
+        return count;
+    };
+    settings::extent_verdict(Bounds::of(points).extent())
 }
 
 // The grid over the cube round the points.
-pub fn grid_for(bounds: Bounds, settings: Settings) -> Grid
+pub fn make_grid(bounds: Bounds, settings: Settings) -> Grid
     requires { ⌜ (1 ≤ settings .depth) × (settings .depth ≤ 8) ⌝ }
     ensures { λ r. ⌜ GridOver bounds settings r ⌝ }
 {
@@ -36,6 +41,7 @@ pub fn field_and_level(
     points: &[f32],
     settings: Settings,
     bounds: Bounds,
+    g: Grid,
     s0: &mut [f32],
     s1: &mut [f32],
     s2: &mut [f32],
@@ -45,8 +51,8 @@ pub fn field_and_level(
     s6: &mut [f32],
     distances: &mut [f32],
 ) -> f32
-    requires { ⌜ (3 ≤ settings .depth) × (settings .depth ≤ 8) × (given (now points) ≤ 1048576) × (bounds ≡ boundsOf (usables (now points))) ⌝ }
-    requires { ⌜ Lent (8 ^ settings .depth) (given (now points)) (now s0) (now s1) (now s2) (now s3) (now s4) (now s5) (now s6) (now distances) ⌝ }
+    requires { ⌜ (bounds ≡ boundsOf (usables (now points))) × GridOver bounds settings g ⌝ }
+    requires { ⌜ Lent (now points) settings (now s0) (now s1) (now s2) (now s3) (now s4) (now s5) (now s6) (now distances) ⌝ }
     ensures { λ r. ⌜ Solved (usables (now (points .entry))) settings r
         (now (s0 .exit))
         (now (s1 .exit))
@@ -68,63 +74,11 @@ pub fn field_and_level(
         tolerance: settings.tolerance,
     };
     levels::solve(problem, settings.depth, points, s0, s1, s2, s3, s4, s5, s6);
-    surface::level(grid_for(bounds, settings), s0, points, settings.iso_offset)
-}
-
-// The same, and the numbers of the crossed edges, which are left in `edges`.
-pub fn prepare(
-    points: &[f32],
-    settings: Settings,
-    bounds: Bounds,
-    s0: &mut [f32],
-    s1: &mut [f32],
-    s2: &mut [f32],
-    s3: &mut [f32],
-    s4: &mut [f32],
-    s5: &mut [f32],
-    s6: &mut [f32],
-    edges: &mut [u32],
-    distances: &mut [f32],
-) -> Found
-    requires { ⌜ (3 ≤ settings .depth) × (settings .depth ≤ 8) × (given (now points) ≤ 1048576)
-        × (bounds ≡ boundsOf (usables (now points)))
-        × (length (now edges) ≡ 3 * 8 ^ settings .depth) ⌝ }
-    requires { ⌜ Lent (8 ^ settings .depth) (given (now points)) (now s0) (now s1) (now s2) (now s3) (now s4) (now s5) (now s6) (now distances) ⌝ }
-    ensures { λ r. ⌜ Prepared (usables (now (points .entry))) settings r
-        (now (s0 .exit))
-        (now (s1 .exit))
-        (now (s2 .exit))
-        (now (s3 .exit))
-        (now (s4 .exit))
-        (now (s5 .exit))
-        (now (s6 .exit))
-        (now (edges .exit))
-        (now (distances .entry)) (now (distances .exit)) ⌝ }
-{
-    let level = field_and_level(
-        points,
-        settings,
-        bounds,
-        s0,
-        s1,
-        s2,
-        s3,
-        s4,
-        s5,
-        s6,
-        distances,
-    );
-    let g = grid_for(bounds, settings);
-    let totals = extract::number_edges(s0, g.lattice(), level, edges);
-    Found {
-        level,
-        vertices: totals.vertices,
-        faces: totals.faces,
-    }
+    surface::level(g, s0, points, settings.iso_offset)
 }
 
 // Extraction, orientation and trim: the returned mesh stands at the front of its slices with zeros past it; the edge table and the three slices are zero.
-pub fn draw(
+pub fn make_mesh(
     points: &[f32],
     settings: Settings,
     g: Grid,
@@ -137,8 +91,8 @@ pub fn draw(
     c: &mut [f32],
     edges: &mut [u32],
 ) -> MeshSize
-    requires { ⌜ Drawable (usables (now points)) settings g level (now vertices) (now faces) (now field) (now a) (now b) (now c) (now edges) ⌝ }
-    ensures { λ r. ⌜ Drawn (usables (now (points .entry))) settings r
+    requires { ⌜ MeshAsked (usables (now points)) settings g level (now vertices) (now faces) (now field) (now a) (now b) (now c) (now edges) ⌝ }
+    ensures { λ r. ⌜ MeshMade (usables (now (points .entry))) settings r
         (now (vertices .entry)) (now (vertices .exit))
         (now (faces .entry)) (now (faces .exit))
         (now (a .entry)) (now (a .exit))
@@ -152,9 +106,9 @@ pub fn draw(
     trim::trim(trimming, points, vertices, faces, edges, a, b, c)
 }
 
-// 6 after trimming, or the answer with the box of the returned vertices.
-pub fn conclude(usable: usize, level: f32, faces: usize, vertices: &[f32]) -> Answer
-    ensures { λ r. ⌜ r ≡ concluded usable level faces (now (vertices .entry)) ⌝ }
+// 6, "no face .. after trimming"; or the answer with the box of the returned vertices.
+pub fn make_answer(usable: usize, level: f32, faces: usize, vertices: &[f32]) -> Answer
+    ensures { λ r. ⌜ r ≡ trimmedAnswer usable level faces (now (vertices .entry)) ⌝ }
 {
     let verdict = settings::mesh_verdict(faces);
     let Verdict::Pass = verdict else {

@@ -64,7 +64,7 @@ fn trim_within(
 }
 
 // The choice taken apart: off keeps every face and vertex as it is.
-fn cut(
+fn trim_as_chosen(
     trimming: Trimming,
     points: &[f32],
     vertices: &mut [f32],
@@ -108,7 +108,7 @@ pub fn trim(
     ensures { λ _. ⌜ now (b .exit) ≡ zeros32 (length (now (b .entry))) ⌝ }
     ensures { λ _. ⌜ now (c .exit) ≡ zeros32 (length (now (c .entry))) ⌝ }
 {
-    let size = cut(trimming, points, vertices, faces, table, a, b, c);
+    let size = trim_as_chosen(trimming, points, vertices, faces, table, a, b, c);
     lists::clear_u32(table);
     lists::clear_f32(a);
     lists::clear_f32(b);

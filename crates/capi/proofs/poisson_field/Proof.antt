@@ -2,7 +2,7 @@
 use mathlib.Core.Path.{refl, ap}
 use denote.Ref.{now}
 use Rattle.scan.specs.FieldAlone.{fieldResults}
-use Rattle.alone.proofs.Results.{carry-field}
+use Rattle.field_call.proofs.Results.{carry-field}
 use borrow.Author.Needs.{needs}
 use Rattle.capi.proofs.poisson_field.Statement.{statement}
 use Rattle.capi.proofs.poisson_field.Tie as tie

@@ -2,7 +2,7 @@
 use mathlib.Core.Path.{refl, ap}
 use denote.Ref.{now}
 use Rattle.scan.specs.Reconstruction.{reconstructed}
-use Rattle.poisson.proofs.Finishing.{carry}
+use Rattle.poisson.proofs.Results.{carry}
 use borrow.Author.Needs.{needs}
 use Rattle.capi.proofs.poisson_reconstruct.Statement.{statement}
 use Rattle.capi.proofs.poisson_reconstruct.Tie as tie

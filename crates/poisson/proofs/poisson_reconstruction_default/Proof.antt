@@ -2,7 +2,7 @@
 use mathlib.Core.Path.{ap}
 use denote.Ref.{now}
 use Rattle.scan.specs.Reconstruction.{reconstructed}
-use Rattle.poisson.proofs.Finishing.{carry}
+use Rattle.poisson.proofs.Results.{carry}
 use borrow.Author.Needs.{needs}
 use Rattle.poisson.proofs.poisson_reconstruction_default.Statement.{statement}
 use Rattle.poisson.proofs.poisson_reconstruction_default.Tie as tie
@@ -10,7 +10,9 @@ use Rattle.poisson.proofs.poisson_reconstruction_default.Tie as tie
 -- ---- the places: each seen from one further on
 
 abbrev after-poisson-reconstruction : tie.After-slice-known22 → tie.After-poisson-reconstruction
-after-poisson-reconstruction c = c .before .before .before .before .before .before .before .before .before .before .before .before .before .before .before .before .before .before .before .before .before .before
+after-poisson-reconstruction c =
+    c .before .before .before .before .before .before .before .before .before .before .before .before .before .before .before .before .before .before
+    .before .before .before .before
 
 abbrev after-new : tie.After-poisson-reconstruction → tie.After-new
 after-new c = c .before .before .before .before .before .before .before .before .before .before .before .before

@@ -1,11 +1,11 @@
--- Each stage is given what it asks by the one before, and what is left is put together by Preparing.
+-- Each stage is given what it asks by the one before, and what is left is put together by PutTogether.
 use mathlib.Core.Path.{refl, sym, ap, _∙_}
 use native.Mathlib.Omega.{arith}
 use denote.Ref.{now}
 use Rattle.lists.specs.Lists.{zeros32}
 use Rattle.points.specs.Points.{usables}
 use Rattle.scan.specs.FieldLength.{cubed}
-use Rattle.scan.proofs.Preparing.{nodes-cubed, field-is, grid-is, level-is}
+use Rattle.scan.proofs.PutTogether.{nodes-cubed, field-is, grid-is, level-is}
 use borrow.Author.Needs.{needs}
 use Rattle.scan.proofs.field_and_level.Statement.{statement}
 use Rattle.scan.proofs.field_and_level.Tie as tie
@@ -30,6 +30,9 @@ after-spacing c = c .before .before .before .before .before .before .before .bef
 abbrev after-origin : tie.After-solve → tie.After-origin
 after-origin c = c .before .before .before .before .before .before .before .before .before
 
+abbrev start : tie.After-solve → tie.Start
+start c = entry (after-extent (after-side (c .before)))
+
 -- ---- the needs
 
 extent-requires : tie.Need-extent-requires
@@ -46,15 +49,29 @@ side-requires c κs = search needs
 
 solve-requires : tie.Need-solve-requires
 solve-requires c κs =
-    let lent = entry (after-extent (after-side c)) .pre .1 in
-    let n = sym (cubed (entry (after-extent (after-side c)) .args .settings .depth)) in
-    (omega (arith, entry (after-extent (after-side c)) .pre .0 .0, entry (after-extent (after-side c)) .pre .0 .1), (record { of-x = lent .size0 ∙ n; of-b = lent .size2 ∙ n; of-s = lent .size3 ∙ n; of-r = lent .size4 ∙ n; of-p = lent .size5 ∙ n; of-ap = lent .size6 ∙ n }, lent .size1 ∙ n))
-
-grid-for-requires : tie.Need-grid-for-requires
-grid-for-requires c κs = omega (arith, entry (after-extent (after-side (after-solve c .before))) .pre .0 .0, entry (after-extent (after-side (after-solve c .before))) .pre .0 .1)
+    let s = entry (after-extent (after-side c)) in
+    let lent = s .pre .1 in
+    let n = sym (cubed (s .args .settings .depth)) in (
+      omega (arith, lent .deep, lent .shallow),
+      (
+        record {
+          of-x = lent .size0 ∙ n;
+          of-b = lent .size2 ∙ n;
+          of-s = lent .size3 ∙ n;
+          of-r = lent .size4 ∙ n;
+          of-p = lent .size5 ∙ n;
+          of-ap = lent .size6 ∙ n;
+        },
+        lent .size1 ∙ n,
+      ),
+    )
 
 level-requires : tie.Need-level-requires
-level-requires c κs = (c .before .grid-for .ensures .sides, (after-solve (c .before .before) .solve .kept .1 .1 .1 .0 ∙ entry (after-extent (after-side (after-solve (c .before .before) .before))) .pre .1 .size0 ∙ sym (nodes-cubed (c .before .grid-for .ensures)), entry (after-extent (after-side (after-solve (c .before .before) .before))) .pre .0 .2))
+level-requires c κs =
+    let d = after-solve (c .before) in
+    let over = start d .pre .0 .1 in
+    let lent = start d .pre .1 in
+    (over .sides, (d .solve .kept .1 .1 .1 .0 ∙ lent .size0 ∙ sym (nodes-cubed over), lent .few))
 
 same-length : tie.Need-same-length
 same-length c = search needs
@@ -78,19 +95,22 @@ same-length-7 : tie.Need-same-length-7
 same-length-7 c = search needs
 
 same-length-8 : tie.Need-same-length-8
-same-length-8 c = after-spacing (after-solve (c .before .before .before)) .spacing .kept .1 .0
+same-length-8 c = after-spacing (after-solve (c .before .before)) .spacing .kept .1 .0
 
 returns : tie.Need-returns
 returns c =
-    let x = entry (after-extent (after-side (after-solve (c .before .before .before) .before))) .args in
-    let ps = usables (now (x .points)) in
-    let st = x .settings in
-    let box = entry (after-extent (after-side (after-solve (c .before .before .before) .before))) .pre .0 .3 in
-    let solved = after-solve (c .before .before .before) .solve .ensures in
+    let d = after-solve (c .before .before) in
+    let s = start d in
+    let ps = usables (now (s .args .points)) in
+    let st = s .args .settings in
+    let box = s .pre .0 .0 in
+    let solved = d .solve .ensures in
+    let spaced = after-spacing d .spacing .ensures in
     let eight = ap zeros32 (cubed (st .depth)) in
-    let field = field-is ps st box (after-origin (after-solve (c .before .before .before)) .origin .ensures) (after-side (after-solve (c .before .before .before) .before) .side .ensures) (after-extent (after-side (after-solve (c .before .before .before) .before)) .extent .ensures) (after-spacing (after-solve (c .before .before .before)) .spacing .ensures .0) refl refl refl (solved .of-x) in
+    let field = field-is ps st box (after-origin d .origin .ensures) (after-side (d .before) .side .ensures)
+    (after-extent (after-side (d .before)) .extent .ensures) (spaced .0) refl refl refl (solved .of-x) in
     record {
-      level-is = level-is ps st (grid-is ps st box (c .before .before .grid-for .ensures)) field (c .level .ensures);
+      level-is = level-is ps st (grid-is ps st box (s .pre .0 .1)) field (c .level .ensures);
       field = field;
       zero1 = solved .of-before ∙ eight;
       zero2 = solved .of-b ∙ eight;
@@ -98,7 +118,7 @@ returns c =
       zero4 = solved .of-r ∙ eight;
       zero5 = solved .of-p ∙ eight;
       zero6 = solved .of-ap ∙ eight;
-      no-distances = after-spacing (after-solve (c .before .before .before)) .spacing .ensures .1;
+      no-distances = spaced .1;
     }
 
 pub field-and-level-spec : {M : Type 1} → statement M
@@ -110,7 +130,6 @@ field-and-level-spec =
     origin-requires
     side-requires
     solve-requires
-    grid-for-requires
     level-requires
     same-length
     same-length-2

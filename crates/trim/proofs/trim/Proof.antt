@@ -1,12 +1,12 @@
--- `trim::trim` meets its contract: the mesh is cut, then the lent slices are cleared. Assumes nothing.
+-- `trim::trim` meets its contract: the mesh is trimmed as the choice says, then the lent slices are cleared. Assumes nothing.
 use mathlib.Core.Path.{ap, _∙_}
 use Rattle.lists.specs.Lists.{zeros32, zerosU}
 use borrow.Author.Needs.{needs}
 use Rattle.trim.proofs.trim.Statement.{statement}
 use Rattle.trim.proofs.trim.Tie as tie
 
-cut-requires : tie.Need-cut-requires
-cut-requires c κs = search needs
+trim-as-chosen-requires : tie.Need-trim-as-chosen-requires
+trim-as-chosen-requires c κs = search needs
 
 clear-u32-requires : tie.Need-clear-u32-requires
 clear-u32-requires c κs = search needs
@@ -40,15 +40,15 @@ same-length-6 c = search needs
 
 returns : tie.Need-returns
 returns c =
-    let cut = c .before .before .before .before .before .before .before .before .before .before .before .before .before .before .before .before .before .before .before .before .before .before .before .before .before .before .before .before .cut in (
-      cut .ensures,
+    let trimmed = c .before .before .before .before .before .before .before .before .before .before .before .before .before .before .before .before .before .before .before .before .before .before .before .before .before .before .before .before .trim-as-chosen in (
+      trimmed .ensures,
       (
-        c .before .before .before .before .before .before .before .before .before .before .before .before .before .before .clear-u32 .ensures ∙ ap zerosU (cut .kept .1 .1 .1 .1 .0),
+        c .before .before .before .before .before .before .before .before .before .before .before .before .before .before .clear-u32 .ensures ∙ ap zerosU (trimmed .kept .1 .1 .1 .1 .0),
         (
-          c .before .before .before .before .before .before .before .before .before .before .clear-f32 .ensures ∙ ap zeros32 (cut .kept .1 .1 .1 .1 .1 .0),
+          c .before .before .before .before .before .before .before .before .before .before .clear-f32 .ensures ∙ ap zeros32 (trimmed .kept .1 .1 .1 .1 .1 .0),
           (
-            c .before .before .before .before .before .before .clear-f322 .ensures ∙ ap zeros32 (cut .kept .1 .1 .1 .1 .1 .1 .0),
-            c .before .before .clear-f323 .ensures ∙ ap zeros32 (cut .kept .1 .1 .1 .1 .1 .1 .1 .0),
+            c .before .before .before .before .before .before .clear-f322 .ensures ∙ ap zeros32 (trimmed .kept .1 .1 .1 .1 .1 .1 .0),
+            c .before .before .clear-f323 .ensures ∙ ap zeros32 (trimmed .kept .1 .1 .1 .1 .1 .1 .1 .0),
           ),
         ),
       ),
@@ -58,7 +58,7 @@ pub trim-spec : {M : Type 1} → statement M
 trim-spec =
     tie.close
     (tie.spec
-    cut-requires
+    trim-as-chosen-requires
     clear-u32-requires
     clear-f32-requires
     clear-f32-requires-2

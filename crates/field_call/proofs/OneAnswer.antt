@@ -1,0 +1,21 @@
+-- No second outcome fits: each public function, in the order of the source. Answer and slices are said by equations. Assumes nothing.
+use mathlib.Core.Path.{refl}
+use Rattle.lists.specs.OneAnswer.{OneOutcome, same, _&_}
+use Rattle.field_call.proofs as fn
+
+pub poisson-field : OneOutcome fn.poisson_field.ended fn.poisson_field.Reads.Post
+poisson-field κs args o o′ p q =
+    same (p .answered) (q .answered)
+    & refl
+    & refl
+    & same (p .values) (q .values)
+    & same (p .scratch .s0-clear) (q .scratch .s0-clear)
+    & same (p .scratch .s1-clear) (q .scratch .s1-clear)
+    & same (p .scratch .s2-clear) (q .scratch .s2-clear)
+    & same (p .scratch .s3-clear) (q .scratch .s3-clear)
+    & same (p .scratch .s4-clear) (q .scratch .s4-clear)
+    & same (p .scratch .s5-clear) (q .scratch .s5-clear)
+    & same (p .scratch .s6-clear) (q .scratch .s6-clear)
+    & same (p .scratch .edges-clear) (q .scratch .edges-clear)
+    & same (p .scratch .distances-clear) (q .scratch .distances-clear)
+    & refl
