@@ -1,2 +1,2 @@
 -- The words of contracts inside the crate.
-pub mod NarrowWords
+pub mod Words

@@ -4,7 +4,7 @@ ghost use mathlib.Core.Path.{_≡_};
 ghost use Prim.Native.Nat.{_^_, _<_, _≤_, _*_};
 ghost use lib.Ieee.Nearest.{closest};
 ghost use Rattle.numbers.specs.Arithmetic.{narrowed};
-ghost use Rattle.arith.specs.NarrowWords.{Nearest32};
+ghost use Rattle.arith.specs.Words.{Nearest32};
 
 // n / 2^shift, rounded to the nearest whole number, a tie to the even one.
 fn rounded(n: u64, shift: u64) -> u64

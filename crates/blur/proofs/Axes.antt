@@ -1,5 +1,5 @@
--- The blur at the nodes of row r = i * n + j, along each axis, as the row's function computes it. Along axes 0 and 1 the lines run across the row, along axis 2 the row is
--- one itself, read as a part of v. A node's digits give its line. Assumes nothing.
+-- The blur at the nodes of row r = i * n + j, along each axis, as the row's function computes it. Along axes 0 and 1 the lines run across the row, along
+-- axis 2 the row is one itself, read as a part of v. A node's digits give its line. Assumes nothing.
 use mathlib.Core.Path.{_≡_, refl, sym, ap, _∙_}
 use mathlib.Core.List.{List}
 use Prim.Native.Nat.{ℕ, zero, suc, _+_, _*_, _/_, _%_, _<_}
@@ -8,13 +8,13 @@ use native.Mathlib.Omega.{arith}
 use lib.Arith.{digits-div, digits-mod}
 use lib.Ieee.{Float, nan}
 use Rattle.lists.specs.Lists.{tabulate, at, part}
-use Rattle.lists.specs.Tabulate.{tabulate-ext}
-use Rattle.lists.specs.Part.{part-at}
+use Rattle.lists.specs.laws.Tabulate.{tabulate-ext}
+use Rattle.lists.specs.laws.Part.{part-at}
 use Rattle.closed.specs.Grid.{node}
 use Rattle.blur.specs.declared.blur.Place.{Place}
 use Rattle.blur.specs.declared.blur.Place.the-variants.{At, Outside}
 use Rattle.blur.specs.Blur.{movedTo, placeAlong, lineNode, withTerm, blurTo, blurAt, offsetCount}
-use Rattle.blur.specs.Inner.{across}
+use Rattle.blur.specs.Words.{across}
 use Rattle.blur.proofs.Moved.{inside-moved}
 
 -- ---- lines that agree

@@ -1,5 +1,5 @@
--- Where an offset leads, said by numbers: to the place place + t - radius, which lies on the side, or outside, before the side or past it. By cases on the two tests.
--- Assumes nothing.
+-- Where an offset leads, said by numbers: to the place place + t - radius, which lies on the side, or outside, before the side or past it. By cases on
+-- the two tests. Assumes nothing.
 use mathlib.Core.Path.{_≡_, refl, ap, subst}
 use mathlib.Core.Bool.{Bool, true, false, _&&_, cond}
 use mathlib.Core.Logic.{_⊎_, inl, inr}
@@ -10,7 +10,7 @@ use lib.Dec.{leb, ltb}
 use Rattle.blur.specs.declared.blur.Place.{Place}
 use Rattle.blur.specs.declared.blur.Place.the-variants.{At, Outside}
 use Rattle.blur.specs.Blur.{movedTo}
-use Rattle.blur.specs.Inner.{Reach}
+use Rattle.blur.specs.Words.{Reach}
 
 module _ (n radius place t : ℕ) where
   pub moved-inside : {p : ℕ} → radius ≤ place + t → place + t - radius ≡ p → p < n → movedTo n radius place t ≡ At p

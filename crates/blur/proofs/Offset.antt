@@ -1,5 +1,5 @@
--- An i32 offset t - r added to a place p, as the machine computes it: no step wraps, the number is p + t - r, and its two tests are tests of natural numbers. By the
--- laws of `toZ` and `ofZ`, an i32's integer and its pattern. Assumes nothing.
+-- An i32 offset t - r added to a place p, as the machine computes it: no step wraps, the number is p + t - r, and its two tests are tests of natural
+-- numbers. By the laws of `toZ` and `ofZ`, an i32's integer and its pattern. Assumes nothing.
 use mathlib.Core.Path.{_≡_, sym, ap, _∙_, subst}
 use mathlib.Core.Bool.{Bool, cond}
 use mathlib.Core.Logic.{⊎-elim}
@@ -13,7 +13,7 @@ use lib.Signed.{mag, ltZ}
 use mir.Syntax.{w32}
 use mir.Val.{SFits, toZ, ofZ}
 use mir.Facts.{toZ-ofZ, toZ-pos}
-use Rattle.lists.specs.Order.{lt-or-le}
+use Rattle.lists.specs.laws.Order.{lt-or-le}
 
 pub diff-pos : (a r : ℕ) → r ≤ a → pos a -ℤ pos r ≡ pos (a - r)
 diff-pos a zero h = ap pos (add-zero a ∙ sym (sub-zero a))

@@ -1,6 +1,6 @@
--- One offset's terms along a row that is a line itself: the nodes that it leads inside are a run, and so are those that it leads them to. The run's ends are known by the
--- first node or by the last: from the first node's place on (`run-ahead`), up to the last node's place (`run-back`), or nothing at all (`run-none`).
--- Lists by their elements; which node is where, by `Moved` and omega. Assumes nothing.
+-- One offset's terms along a row that is a line itself: the nodes that it leads inside are a run, and so are those that it leads them to. The run's ends
+-- are known by the first node or by the last: from the first node's place on (`run-ahead`), up to the last node's place (`run-back`), or nothing at all
+-- (`run-none`). Lists by their elements; which node is where, by `Moved` and omega. Assumes nothing.
 use mathlib.Core.Path.{_≡_, sym, ap, _∙_}
 use mathlib.Core.List.{List}
 use mathlib.Core.Logic.{⊎-elim}
@@ -10,12 +10,12 @@ use borrow.Rule.Slice.PartMut.{putMid}
 use lib.ListN.{length}
 use lib.Ieee.{Float, nan, binary32, add, mul}
 use Rattle.lists.specs.Lists.{tabulate, at, part}
-use Rattle.lists.specs.Order.{lt-or-le}
-use Rattle.lists.specs.Tabulate.{length-tabulate, at-tabulate, tabulate-by, tabulate-ext, tabulate-self}
-use Rattle.lists.specs.Part.{length-part, part-at, put-length, put-before, put-in, put-after}
+use Rattle.lists.specs.laws.Order.{lt-or-le}
+use Rattle.lists.specs.laws.Tabulate.{length-tabulate, at-tabulate, tabulate-by, tabulate-ext, tabulate-self}
+use Rattle.lists.specs.laws.Part.{length-part, part-at, put-length, put-before, put-in, put-after}
 use Rattle.blur.specs.declared.blur.Place.the-variants.{At, Outside}
 use Rattle.blur.specs.Blur.{movedTo, withTerm}
-use Rattle.blur.specs.Inner.{plusTimes, FirstOutside}
+use Rattle.blur.specs.Words.{plusTimes, FirstOutside}
 use Rattle.blur.proofs.Moved.{moved-inside, moved-before, moved-past, inside-moved, outside-moved}
 use Rattle.blur.proofs.Terms.{term-at, term-outside}
 

@@ -1,5 +1,6 @@
--- One offset's terms are added to the sums of a row: the row of sums is then that of one offset more (`blur-more`), whatever the lines of its nodes and their places on them.
--- A row whose lines run across it takes a part of v, or nothing (`across-at`, `across-outside`). Lists by their elements. Assumes nothing.
+-- One offset's terms are added to the sums of a row: the row of sums is then that of one offset more (`blur-more`), whatever the lines of its nodes and
+-- their places on them. A row whose lines run across it takes a part of v, or nothing (`across-at`, `across-outside`). Lists by their elements. Assumes
+-- nothing.
 use mathlib.Core.Path.{_≡_, sym, ap, _∙_}
 use mathlib.Core.List.{List}
 use Prim.Native.Nat.{ℕ, suc, _+_, _*_}
@@ -8,12 +9,12 @@ use native.Mathlib.Omega.{arith}
 use lib.ListN.{length}
 use lib.Ieee.{Float, nan, binary32, add, mul}
 use Rattle.lists.specs.Lists.{tabulate, at, part, zeros32, zero32}
-use Rattle.lists.specs.Tabulate.{length-tabulate, at-tabulate, tabulate-ext, tabulate-self, tabulate-same}
-use Rattle.lists.specs.Part.{part-at}
+use Rattle.lists.specs.laws.Tabulate.{length-tabulate, at-tabulate, tabulate-ext, tabulate-self, tabulate-same}
+use Rattle.lists.specs.laws.Part.{part-at}
 use Rattle.blur.specs.declared.blur.Place.{Place}
 use Rattle.blur.specs.declared.blur.Place.the-variants.{At, Outside}
 use Rattle.blur.specs.Blur.{movedTo, withTerm, blurTo}
-use Rattle.blur.specs.Inner.{plusTimes, across}
+use Rattle.blur.specs.Words.{plusTimes, across}
 
 -- ---- one term
 

@@ -1,6 +1,4 @@
 -- Document 01's blur: the definitions, then what callers and proofs know of them.
 pub mod Blur
-pub mod Inner
-pub mod FirstWeights
-pub mod Radius
-pub mod Within
+pub mod Words
+pub mod laws

@@ -1,12 +1,12 @@
-// One pass of the blur along an axis, beside the Rust's `blur_axis`. The Rust sums node by node; here a whole row takes one offset's term after the other, so each
-// node's sum has the same order. Outside terms are skipped; nothing is divided by the weights.
+// One pass of the blur along an axis, beside the Rust's `blur_axis`. The Rust sums node by node; here a whole row takes one offset's term after the
+// other, so each node's sum has the same order. Outside terms are skipped; nothing is divided by the weights.
 ghost use mathlib.Core.Path.{_≡_};
 ghost use Prim.Native.Nat.{ℕ, _+_, _*_, _≤_, _<_};
 ghost use lib.ListN.{length};
 ghost use Rattle.lists.specs.Lists.{tabulate, at};
 ghost use Rattle.grid.specs.Grid.{Sides, allNodes, rowStart};
 ghost use Rattle.blur.specs.Blur.{movedTo, withTerm, blurTo, blurAt, offsetCount};
-ghost use Rattle.blur.specs.Inner.{plusTimes, across, Reach, FirstOutside};
+ghost use Rattle.blur.specs.Words.{plusTimes, across, Reach, FirstOutside};
 use grid::Grid;
 use grid::Node;
 
@@ -48,7 +48,8 @@ fn add_times(x: &mut [f32], p: &[f32], w: f32)
 // One offset's terms, added to the sums of a row whose lines run across it: all of them at one place of the lines, or all outside.
 fn add_row(out: &mut [f32], v: &[f32], first: Node, stride: usize, place: Place, w: f32)
     requires { ⌜ Reach (first .0) stride (length (now out)) (length (now v)) place ⌝ }
-    ensures { λ _. ⌜ now (out .exit) ≡ tabulate (length (now (out .entry))) (λ k. withTerm (now (v .entry)) (across (first .0) stride k) w place (at (now (out .entry)) k)) ⌝ }
+    ensures { λ _. ⌜ now (out .exit) ≡ tabulate (length (now (out .entry)))
+        (λ k. withTerm (now (v .entry)) (across (first .0) stride k) w place (at (now (out .entry)) k)) ⌝ }
 {
     match place {
         Place::At(p) => {
@@ -71,8 +72,13 @@ fn blur_across(
     kernel: &[f32],
     radius: usize,
 )
-    requires { ⌜ (place < n) × (n ≤ 256) × (radius ≤ 18) × (length (now kernel) ≡ offsetCount radius) × ((p : ℕ) → p < n → first .0 + p * stride + length (now out) ≤ length (now v)) ⌝ }
-    ensures { λ _. ⌜ now (out .exit) ≡ tabulate (length (now (out .entry))) (λ k. blurTo (now (v .entry)) (across (first .0) stride k) n place radius (now (kernel .entry)) (offsetCount radius)) ⌝ }
+    requires { ⌜ (place < n)
+        × (n ≤ 256)
+        × (radius ≤ 18)
+        × (length (now kernel) ≡ offsetCount radius)
+        × ((p : ℕ) → p < n → first .0 + p * stride + length (now out) ≤ length (now v)) ⌝ }
+    ensures { λ _. ⌜ now (out .exit) ≡ tabulate (length (now (out .entry)))
+        (λ k. blurTo (now (v .entry)) (across (first .0) stride k) n place radius (now (kernel .entry)) (offsetCount radius)) ⌝ }
 {
     lists::clear_f32(out);
     let mut t = 0usize;
@@ -84,8 +90,14 @@ fn blur_across(
 
 // One offset's terms, added to the sums of a row that is a line itself, where its first node's place is outside: the run of nodes inside ends at the last.
 fn add_to_end(out: &mut [f32], v: &[f32], t: usize, radius: usize, w: f32)
-    requires { ⌜ (0 < length (now out)) × (length (now out) ≤ 256) × (length (now v) ≡ length (now out)) × (t ≤ 36) × (radius ≤ 18) × FirstOutside (length (now out)) radius t ⌝ }
-    ensures { λ _. ⌜ now (out .exit) ≡ tabulate (length (now (out .entry))) (λ k. withTerm (now (v .entry)) (λ p. p) w (movedTo (length (now (out .entry))) radius k t) (at (now (out .entry)) k)) ⌝ }
+    requires { ⌜ (0 < length (now out))
+        × (length (now out) ≤ 256)
+        × (length (now v) ≡ length (now out))
+        × (t ≤ 36)
+        × (radius ≤ 18)
+        × FirstOutside (length (now out)) radius t ⌝ }
+    ensures { λ _. ⌜ now (out .exit) ≡ tabulate (length (now (out .entry)))
+        (λ k. withTerm (now (v .entry)) (λ p. p) w (movedTo (length (now (out .entry))) radius k t) (at (now (out .entry)) k)) ⌝ }
 {
     let n = out.len();
     match moved(n - 1, t, radius, n) {
@@ -98,10 +110,12 @@ fn add_to_end(out: &mut [f32], v: &[f32], t: usize, radius: usize, w: f32)
     }
 }
 
-// One offset's terms, added to the sums of a row that is a line itself. The nodes inside are a run, found at its ends: from the first node on, or up to the last.
+// One offset's terms, added to the sums of a row that is a line itself. The nodes inside are a run, found at its ends: from the first node on, or up to
+// the last.
 fn add_along(out: &mut [f32], v: &[f32], t: usize, radius: usize, w: f32)
     requires { ⌜ (0 < length (now out)) × (length (now out) ≤ 256) × (length (now v) ≡ length (now out)) × (t ≤ 36) × (radius ≤ 18) ⌝ }
-    ensures { λ _. ⌜ now (out .exit) ≡ tabulate (length (now (out .entry))) (λ k. withTerm (now (v .entry)) (λ p. p) w (movedTo (length (now (out .entry))) radius k t) (at (now (out .entry)) k)) ⌝ }
+    ensures { λ _. ⌜ now (out .exit) ≡ tabulate (length (now (out .entry)))
+        (λ k. withTerm (now (v .entry)) (λ p. p) w (movedTo (length (now (out .entry))) radius k t) (at (now (out .entry)) k)) ⌝ }
 {
     let n = out.len();
     match moved(0, t, radius, n) {
@@ -117,8 +131,13 @@ fn add_along(out: &mut [f32], v: &[f32], t: usize, radius: usize, w: f32)
 
 // A row that is a line itself.
 fn blur_along(out: &mut [f32], v: &[f32], kernel: &[f32], radius: usize)
-    requires { ⌜ (0 < length (now out)) × (length (now out) ≤ 256) × (length (now v) ≡ length (now out)) × (radius ≤ 18) × (length (now kernel) ≡ offsetCount radius) ⌝ }
-    ensures { λ _. ⌜ now (out .exit) ≡ tabulate (length (now (out .entry))) (λ k. blurTo (now (v .entry)) (λ p. p) (length (now (out .entry))) k radius (now (kernel .entry)) (offsetCount radius)) ⌝ }
+    requires { ⌜ (0 < length (now out))
+        × (length (now out) ≤ 256)
+        × (length (now v) ≡ length (now out))
+        × (radius ≤ 18)
+        × (length (now kernel) ≡ offsetCount radius) ⌝ }
+    ensures { λ _. ⌜ now (out .exit) ≡ tabulate (length (now (out .entry)))
+        (λ k. blurTo (now (v .entry)) (λ p. p) (length (now (out .entry))) k radius (now (kernel .entry)) (offsetCount radius)) ⌝ }
 {
     lists::clear_f32(out);
     let mut t = 0usize;
@@ -164,7 +183,11 @@ fn blur_row(
 
 // The pass, row by row.
 pub fn blur_axis(g: Grid, v: &[f32], out: &mut [f32], axis: usize, kernel: &[f32], radius: usize)
-    requires { ⌜ Sides (g .nodes) × (length (now v) ≡ allNodes g) × (length (now out) ≡ allNodes g) × (radius ≤ 18) × (length (now kernel) ≡ offsetCount radius) ⌝ }
+    requires { ⌜ Sides (g .nodes)
+        × (length (now v) ≡ allNodes g)
+        × (length (now out) ≡ allNodes g)
+        × (radius ≤ 18)
+        × (length (now kernel) ≡ offsetCount radius) ⌝ }
     ensures { λ _. ⌜ now (out .exit) ≡ tabulate (allNodes g) (blurAt axis (g .nodes) radius (now (kernel .entry)) (now (v .entry))) ⌝ }
 {
     let n = g.nodes;

@@ -2,7 +2,7 @@
 ghost use mathlib.Core.Path.{_≡_};
 ghost use Prim.Native.Nat.{_≤_};
 ghost use Rattle.blur.specs.Blur.{sigmaOf, radiusOf, weightOf, reachOf};
-ghost use Rattle.blur.specs.Inner.{KernelOf};
+ghost use Rattle.blur.specs.Words.{KernelOf};
 
 // How far the blur reaches, and its weights from minus the radius to the radius; behind them the array holds +0.0, and is not read.
 pub struct Kernel {

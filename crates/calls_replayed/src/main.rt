@@ -1,7 +1,7 @@
-// Replays recorded calls and prints each answer in the words of oracle/cases, so that a reader can hold the two side by side. Each call of `stdin` has its name, its settings,
-// how many of the field's values are to be shown, how long each lent slice is, and its points; `stdout` was written by the oracle. Each call is made twice: for the mesh in slices
-// of those lengths, then for the field alone in slices that are long enough. All slices are lent full of rubbish; `left` and `field-left` count, slice by slice, what is not zero
-// past the results and in all scratch.
+// Replays recorded calls and prints each answer in the words of oracle/cases, so that a reader can hold the two side by side. Each call of `stdin` has
+// its name, its settings, how many of the field's values are to be shown, how long each lent slice is, and its points; `stdout` was written by the
+// oracle. Each call is made twice: for the mesh in slices of those lengths, then for the field alone in slices that are long enough. All slices are lent
+// full of rubbish; `left` and `field-left` count, slice by slice, what is not zero past the results and in all scratch.
 mod tell;
 mod words;
 

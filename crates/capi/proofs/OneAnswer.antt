@@ -5,7 +5,8 @@ use mathlib.Core.List.{List}
 use Prim.Native.Nat.{ℕ}
 use lib.Ieee.{Float}
 use Rattle.settings.specs.declared.Answer.{Answer}
-use Rattle.lists.specs.OneAnswer.{OneOutcome, same, _&_}
+use Rattle.lists.specs.OneOutcome.{OneOutcome}
+use Rattle.lists.specs.laws.OneAnswer.{same, _&_}
 use Rattle.capi.specs.Flat.{countsOf, valuesOf, AnswerTold}
 use Rattle.capi.proofs as fn
 

@@ -13,11 +13,11 @@ use Rattle.lists.specs.Lists.{at}
 use Rattle.numbers.specs.Arithmetic.{narrowed}
 use Rattle.closed.specs.Grid.{node}
 use Rattle.grid.specs.Grid.{coordsOf, nodeOf, axisOf, worldAlong}
-use Rattle.grid.specs.Numbering.{node-of-coords}
+use Rattle.grid.specs.laws.Numbering.{node-of-coords}
 use Rattle.grid.specs.declared.Lattice.{Lattice}
 use Rattle.cells.specs.Extraction.{countY, countZ, crossing, unit, lowerValue, upperValue, countAlong, edgePoint}
-use Rattle.cells.specs.CellWords.{stride, Inner}
-use Rattle.cells.specs.Cells.{node-add, unit-stride}
+use Rattle.cells.specs.Words.{stride, Inner}
+use Rattle.cells.specs.laws.Cells.{node-add, unit-stride}
 
 pub count-float : {n : ℕ} → n ≤ 16777216 → T (inFloat binary64 (pos n))
 unfolding inFloat

@@ -1,6 +1,4 @@
 -- Document 01's Extraction: the definitions, the words that the contracts add to them, then the laws of a cell and its rows.
 pub mod Extraction
-pub mod CellWords
-pub mod Cells
-pub mod Rows
-pub mod Plain
+pub mod Words
+pub mod laws

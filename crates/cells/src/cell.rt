@@ -5,7 +5,7 @@ ghost use lib.ListN.{length, getD};
 ghost use Rattle.closed.specs.Lists.{bit};
 ghost use Rattle.grid.specs.Grid.{Counts};
 ghost use Rattle.cells.specs.Extraction.{isBelow, countY, countZ};
-ghost use Rattle.cells.specs.CellWords.{sideAt, belowCount, plainLine, edgeOffset, edgeOffsets};
+ghost use Rattle.cells.specs.Words.{sideAt, belowCount, plainLine, edgeOffset, edgeOffsets};
 use grid::Edge;
 use grid::Lattice;
 use grid::Node;
@@ -23,8 +23,8 @@ fn bit_of(value: f32, iso: f32) -> usize
     if below(value, iso) { 1 } else { 0 }
 }
 
-// The bits of the side of cells at a node: corners 0, 1, 2, 3 of the cell there, in the order of the corner list, and corners 4, 5, 6, 7 of the cell before. A case is
-// a near side and sixteen times the far one, so a line of cells reads each side once.
+// The bits of the side of cells at a node: corners 0, 1, 2, 3 of the cell there, in the order of the corner list, and corners 4, 5, 6, 7 of the cell
+// before. A case is a near side and sixteen times the far one, so a line of cells reads each side once.
 pub fn side_of(values: &[f32], ny: usize, nz: usize, node: Node, iso: f32) -> usize
     requires { ⌜ node .0 + ny * nz + nz < length (now values) ⌝ }
     ensures { λ r. ⌜ r ≡ sideAt (now (values .entry)) ny nz iso (node .0) ⌝ }

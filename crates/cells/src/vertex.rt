@@ -1,15 +1,10 @@
 // Where the vertex on an edge lies.
 ghost use mathlib.Core.Path.{_≡_};
 ghost use Prim.Native.Nat.{_*_, _≤_};
-ghost use lib.Ieee.{add, binary64, ofInt};
-ghost use lib.IntN.{pos};
-ghost use lib.ListN.{length, getD};
-ghost use mathlib.Core.Bool.{cond};
-ghost use lib.Dec.{eqb};
 ghost use Rattle.grid.specs.Grid.{worldAlong};
 ghost use Rattle.numbers.specs.Arithmetic.{narrowed};
-ghost use Rattle.cells.specs.Extraction.{crossing, countAlong, countX, countY, countZ, edgePoint};
-ghost use Rattle.cells.specs.CellWords.{Inner, stride};
+ghost use Rattle.cells.specs.Extraction.{crossing, countAlong, countY, countZ, edgePoint};
+ghost use Rattle.cells.specs.Words.{Inner, stride};
 ghost use Rattle.grid.specs.Grid.{Counts};
 use grid::Edge;
 use grid::Lattice;

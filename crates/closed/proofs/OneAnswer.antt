@@ -3,7 +3,8 @@ use mathlib.Core.Path.{_≡_, refl}
 use mathlib.Core.List.{List}
 use Prim.Native.Nat.{ℕ}
 use lib.ListN.{length}
-use Rattle.lists.specs.OneAnswer.{OneOutcomeAmong, same, _&_, by-three}
+use Rattle.lists.specs.OneOutcome.{OneOutcomeAmong}
+use Rattle.lists.specs.laws.OneAnswer.{same, _&_, by-three}
 use Rattle.closed.specs.Faces.{faceOf}
 use Rattle.closed.proofs as fn
 

@@ -4,9 +4,10 @@ use mathlib.Core.Path.{_≡_, refl}
 use mathlib.Core.List.{List}
 use Prim.Native.Nat.{ℕ}
 use lib.ListN.{length}
-use Rattle.lists.specs.OneAnswer.{OneOutcome, OneOutcomeAmong, same, _&_, by-three}
+use Rattle.lists.specs.OneOutcome.{OneOutcome, OneOutcomeAmong}
+use Rattle.lists.specs.laws.OneAnswer.{same, _&_, by-three}
 use Rattle.closed.proofs.OneAnswer.{by-face}
-use Rattle.cubes.specs.Cube.{placeOf}
+use Rattle.cubes.specs.Words.{placeOf}
 use Rattle.cubes.proofs as fn
 
 by-place : {a b : List ℕ} → length a ≡ 3 → length b ≡ 3 → placeOf a ≡ placeOf b → a ≡ b

@@ -11,7 +11,7 @@ use mir.Syntax.{w8}
 use mir.Val.{toZ, ofZ}
 use mir.ValLaws.{toZ-ofZ}
 use Rattle.closed.specs.Rows.{row, entry}
-use Rattle.closed.specs.Entries.{entry-small, entry-neg}
+use Rattle.closed.specs.laws.Entries.{entry-small, entry-neg}
 
 pub entry-back : (c t : ℕ) (z : ℤ) → c < 256 → z ≡ entry c t → toZ w8 (ofZ w8 z) ≡ entry c t
 entry-back c t z h e =

@@ -1,4 +1,3 @@
 -- What an array of node counts or of corners stands for, and the laws of the table's rows and of the cube's edges.
-pub mod Cube
-pub mod Edges
-pub mod Emitted
+pub mod Words
+pub mod laws

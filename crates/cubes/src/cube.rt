@@ -2,7 +2,7 @@
 ghost use mathlib.Core.Path.{_≡_};
 ghost use Prim.Native.Nat.{_<_};
 ghost use Rattle.closed.specs.Table.{cornerAt, endsOf, cubeAxis, lowOf};
-ghost use Rattle.cubes.specs.Cube.{pairOf, placeOf};
+ghost use Rattle.cubes.specs.Words.{pairOf, placeOf};
 
 const CORNERS: [[usize; 3]; 8] = [
     [0, 0, 0],

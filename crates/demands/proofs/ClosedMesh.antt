@@ -4,7 +4,7 @@
 use mathlib.Core.Path.{_≡_, sym, ap, _∙_, subst}
 use mathlib.Core.Bool.{Bool}
 use mathlib.Core.List.{List}
-use Prim.Native.Nat.{ℕ, _-_, _*_, _≤_, _<_}
+use Prim.Native.Nat.{ℕ, _*_, _≤_, _<_}
 use native.Mathlib.Nat.{pow-le-pow-right}
 use lib.Dec.{lit<}
 use lib.ListN.{length, getD}
@@ -12,16 +12,16 @@ use lib.Ieee.{Float, lt}
 use Rattle.closed.specs.Lists.{All}
 use Rattle.closed.specs.Faces.{Balanced, Apart, corners, faces}
 use Rattle.closed.specs.Numbering.{used}
-use Rattle.closed.specs.Turning.{faces-corners, length-corners}
+use Rattle.closed.specs.laws.Turning.{faces-corners, length-corners}
 use Rattle.closed.specs.Grid.{gridFaces, Outer}
 use Rattle.grid.specs.Grid.{Counts, gridOf, latticeOf}
-use Rattle.grid.specs.Rows.{cube-counts}
-use Rattle.levels.specs.BoundaryAlike.{boundary-alike, outer}
+use Rattle.grid.specs.laws.Rows.{cube-counts}
+use Rattle.levels.specs.laws.BoundaryAlike.{boundary-alike, outer}
 use Rattle.cells.specs.Extraction.{isBelow, belowAt, extractedFaces, extractedVertices, vertexEdges, edgeFaces}
-use Rattle.extract.specs.Claims.{one-to-one, places, three-different, faces-counted, closed}
+use Rattle.extract.specs.laws.Claims.{one-to-one, places, three-different, faces-counted, closed}
 use Rattle.meshes.specs.FlatMesh.{vertexCount}
 use Rattle.orientation.specs.Orientation.{orientedFaces}
-use Rattle.orientation.specs.Orienting.{oriented-balanced, oriented-apart, oriented-length, oriented-meshed}
+use Rattle.orientation.specs.laws.Orienting.{oriented-balanced, oriented-apart, oriented-length, oriented-meshed}
 use Rattle.trim.specs.Trim.{trimmedVertices, trimmedFaces}
 use Rattle.points.specs.declared.point.Point.{Point}
 use Rattle.points.specs.Points.{usables}
@@ -29,7 +29,7 @@ use Rattle.settings.specs.declared.Settings.{Settings}
 use Rattle.settings.specs.declared.Trimming.{Trimming}
 use Rattle.settings.specs.declared.Trimming.the-variants.{Off}
 use Rattle.scan.specs.Reconstruction.{problemFor, gridFor, latticeFor, fieldFor, levelFor, wholeVertices, wholeFaces, keptVertices, keptFaces, acceptedAnswer}
-use Rattle.scan.specs.MeshRoom.{length-vertices, count-vertices, extracted-meshed}
+use Rattle.scan.specs.laws.MeshRoom.{length-vertices, count-vertices, extracted-meshed}
 use Rattle.demands.specs.Demand3.{sideNodes, Closed}
 use Rattle.demands.proofs.Demand2.{made}
 

@@ -13,7 +13,7 @@ use Rattle.settings.specs.declared.Answer.{Answer}
 use Rattle.settings.specs.declared.Verdict.{Verdict}
 use Rattle.settings.specs.declared.Verdict.the-variants.{Pass}
 use Rattle.settings.specs.Answers.{numberOf}
-use Rattle.settings.specs.Passed.{passed, number-under}
+use Rattle.settings.specs.laws.Passed.{passed, number-under}
 use Rattle.ending.specs.Slices.{Slices, FieldSlices}
 use Rattle.scan.specs.Reconstruction.{Results, keptVertices, keptFaces, lengthsOf, verdictOf, acceptedAnswer, resultsUnder, reconstructed}
 use Rattle.scan.specs.FieldAlone.{FieldResults, fieldLengths, fieldVerdict, fieldAnswer, fieldUnder, fieldResults}

@@ -7,20 +7,20 @@ use native.Mathlib.Omega.{arith}
 use lib.ListN.{length, take}
 use lib.Ieee.{Float}
 use Rattle.lists.specs.Lists.{zero32}
-use Rattle.lists.specs.Padded.{take-padded}
+use Rattle.lists.specs.laws.Padded.{take-padded}
 use Rattle.closed.specs.Faces.{corners}
-use Rattle.closed.specs.Turning.{length-corners}
+use Rattle.closed.specs.laws.Turning.{length-corners}
 use Rattle.closed.specs.Grid.{node}
-use Rattle.closed.specs.Crossings.{node-lt}
+use Rattle.closed.specs.laws.Crossings.{node-lt}
 use Rattle.points.specs.Points.{usables}
 use Rattle.settings.specs.declared.Settings.{Settings}
 use Rattle.settings.specs.declared.Answer.{Answer}
 use Rattle.settings.specs.declared.Trimming.the-variants.{Off}
 use Rattle.settings.specs.Refusals.{earlyVerdict}
-use Rattle.settings.specs.Passed.{both-pass, ChecksPassed, ready}
+use Rattle.settings.specs.laws.Passed.{both-pass, ChecksPassed, ready}
 use Rattle.ending.specs.Slices.{Slices}
 use Rattle.scan.specs.Reconstruction.{fieldFor, keptVertices, keptFaces, lengthsOf, verdictOf, acceptedAnswer}
-use Rattle.scan.specs.FieldLength.{cubed, field-length}
+use Rattle.scan.specs.laws.FieldLength.{cubed, field-length}
 use Rattle.demands.specs.Call.{Meets}
 use Rattle.demands.specs.Demand3.{sideNodes, Closed, delivered, Demand3}
 use Rattle.demands.proofs.Demand2.{made, passes, answer-told, vertices-told, faces-told}

@@ -13,7 +13,7 @@ use Rattle.settings.specs.Answers.{numberOf}
 use Rattle.settings.specs.Refusals.{_then_, earlyVerdict, usableVerdict, extentVerdict}
 use Rattle.ending.specs.Slices.{Slices}
 use Rattle.scan.specs.Reconstruction.{extentFor, lengthsOf, lateVerdict}
-use Rattle.scan.specs.NanOffset.{nan-offset-no-face}
+use Rattle.scan.specs.laws.NanOffset.{nan-offset-no-face}
 use Rattle.poisson.proofs.Order.{first-checks}
 use Rattle.demands.specs.Call.{Meets}
 use Rattle.demands.proofs.Demand2.{number-told}

@@ -1,6 +1,7 @@
 -- No second outcome fits: each public function, in the order of the source. Each slice at exit is said by an equation. Assumes nothing.
 use mathlib.Core.Path.{refl}
-use Rattle.lists.specs.OneAnswer.{OneOutcome, same, _&_}
+use Rattle.lists.specs.OneOutcome.{OneOutcome}
+use Rattle.lists.specs.laws.OneAnswer.{same, _&_}
 use Rattle.ending.proofs as fn
 
 pub clear-scratch : OneOutcome fn.clear_scratch.ended fn.clear_scratch.Reads.Post

@@ -1,7 +1,6 @@
 // Reports how far 01's exponential of -x is from Rust's `exp`, in steps of f32, at x = k/320 for k = 0..4000, that is from 0 to 12.5.
 // `stdin` has Rust's values, one pattern a line, as native/src/bin/exp_distance.rs writes them; that program also runs 13 million values.
 ghost use Prim.Native.Nat.{_<_, _≤_};
-ghost use lib.ListN.{length};
 use libc::STDIN_FILENO;
 use libc::STDOUT_FILENO;
 

@@ -10,12 +10,12 @@ use Rattle.closed.specs.Table.{cornerAt, lowOf, cubeAxis}
 use Rattle.closed.specs.Grid.{node, edge}
 use Rattle.grid.specs.Grid.{nodeOf}
 use Rattle.grid.specs.declared.Lattice.{Lattice}
-use Rattle.cubes.specs.Edges.{in-cube, axis-small}
+use Rattle.cubes.specs.laws.Edges.{in-cube, axis-small}
 use Rattle.cells.specs.Extraction.{countY, countZ, unit}
-use Rattle.cells.specs.CellWords.{nodeOffset, edgeOffset, edgeOffsets, stride, Inner}
-use Rattle.cells.specs.Cells.{node-add, unit-node, unit-stride, offset-at}
-use Rattle.cells.specs.Rows.{edges-in}
-use Rattle.extract.specs.SecondPass.{EdgesOf}
+use Rattle.cells.specs.Words.{nodeOffset, edgeOffset, edgeOffsets, stride, Inner}
+use Rattle.cells.specs.laws.Cells.{node-add, unit-node, unit-stride, offset-at}
+use Rattle.cells.specs.laws.Rows.{edges-in}
+use Rattle.extract.specs.Words.{EdgesOf}
 
 module _ (values : List Float) (l : Lattice) (m all first : ℕ) (offsets : List ℕ) (o : offsets ≡ edgeOffsets (countY l) (countZ l)) (f : first ≡ edge m 0)
     (h : m + countY l * countZ l + countZ l + 1 < length values) (a : all ≡ 3 * length values) (few : length values ≤ 16777216) where

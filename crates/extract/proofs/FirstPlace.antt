@@ -12,21 +12,21 @@ use lib.Ieee.{Float}
 use lib.ListN.{length, getD, length-append, drop-of-length-le}
 use lib.Seq.{sets, sets-eq}
 use Rattle.lists.specs.Lists.{tabulate}
-use Rattle.lists.specs.Tabulate.{at-tabulate}
+use Rattle.lists.specs.laws.Tabulate.{at-tabulate}
 use Rattle.closed.specs.Lists.{All, member, In}
 use Rattle.closed.specs.Faces.{Face, corners}
 use Rattle.closed.specs.Numbering.{note, grow, dedup, used, indexOf, slot, mesh}
-use Rattle.closed.specs.Mesh.{mesh-corners, mesh-length, used-member}
-use Rattle.closed.specs.Renumber.{in-or-not, in-note, note-old, note-new, indexOf-lt, indexOf-grow, indexOf-new, member-grow, slot-in, in-all}
+use Rattle.closed.specs.laws.Mesh.{mesh-corners, mesh-length, used-member}
+use Rattle.closed.specs.laws.Renumber.{in-or-not, in-note, note-old, note-new, indexOf-lt, indexOf-grow, indexOf-new, member-grow, slot-in, in-all}
 use Rattle.grid.specs.Grid.{Counts}
 use Rattle.grid.specs.declared.Lattice.{Lattice}
 use Rattle.cells.specs.Extraction.{countX, countY, countZ, pointsOf, edgePoint, edgeFaces, vertexEdges, extractedFaces, extractedVertices}
 use Rattle.meshes.specs.declared.MeshSize.{MeshSize}
-use Rattle.cells.specs.Cells.{edges-below, block-faces}
-use Rattle.closed.specs.Turning.{length-corners}
-use Rattle.cells.specs.CellWords.{blockFaces}
-use Rattle.numbering.specs.FirstPass.{none, edgeTable}
-use Rattle.extract.specs.SecondPass.{Places, place1, placeAll, vertexIn, RoomFor, Written, Mesh}
+use Rattle.cells.specs.laws.Cells.{edges-below, block-faces}
+use Rattle.closed.specs.laws.Turning.{length-corners}
+use Rattle.cells.specs.Words.{blockFaces}
+use Rattle.numbering.specs.Words.{none, edgeTable}
+use Rattle.extract.specs.Words.{Places, place1, placeAll, vertexIn, RoomFor, Written, Mesh}
 use Rattle.extract.proofs.Placing.{sets-append}
 
 -- ---- the coordinates of several edges

@@ -3,7 +3,7 @@
 use mathlib.Core.Path.{_≡_, refl, sym, ap, _∙_, subst}
 use mathlib.Core.Bool.{Bool, true, false, cond}
 use mathlib.Core.List.{List, [], _∷_, _++_, map, append-assoc, append-nil}
-use Prim.Native.Nat.{ℕ, zero, suc, _+_, _-_, _*_, _≤_, _<_}
+use Prim.Native.Nat.{ℕ, zero, suc, _+_, _*_, _≤_, _<_}
 use native.Mathlib.Nat.{add-zero}
 use native.Mathlib.Decide.{decLt}
 use native.Mathlib.Omega.{arith}
@@ -15,13 +15,13 @@ use lib.Seq.{sets, length-sets}
 use Rattle.closed.specs.Lists.{cells}
 use Rattle.closed.specs.Faces.{Face, face, mapFace, corners}
 use Rattle.closed.specs.Rows.{emitted}
-use Rattle.closed.specs.Counting.{cells-one-more}
-use Rattle.closed.specs.Turning.{corners-append, length-corners}
+use Rattle.closed.specs.laws.Counting.{cells-one-more}
+use Rattle.closed.specs.laws.Turning.{corners-append, length-corners}
 use Rattle.grid.specs.declared.Lattice.{Lattice}
 use Rattle.cells.specs.Extraction.{edgePoint}
-use Rattle.cells.specs.CellWords.{rowFaces}
-use Rattle.cells.specs.Rows.{firstFaces, one-more, rest-faces}
-use Rattle.extract.specs.SecondPass.{Places, place1, placeAll, vertexIn, Written, RoomFor}
+use Rattle.cells.specs.Words.{rowFaces}
+use Rattle.cells.specs.laws.Rows.{firstFaces, one-more, rest-faces}
+use Rattle.extract.specs.Words.{Places, place1, placeAll, vertexIn, Written, RoomFor}
 use Rattle.meshes.specs.declared.MeshSize.{MeshSize}
 
 -- ---- a run of stores in two parts

@@ -4,12 +4,12 @@ ghost use mathlib.Core.List.{[], _∷_};
 ghost use Prim.Native.Nat.{_+_, _-_, _*_, _<_, _≤_};
 ghost use lib.ListN.{length, getD};
 ghost use Rattle.closed.specs.Faces.{faceOf, mapFace};
-ghost use Rattle.closed.specs.Rows.{flatTable, emitted};
+ghost use Rattle.closed.specs.Rows.{flatTable};
 ghost use Rattle.grid.specs.Grid.{Counts};
 ghost use Rattle.cells.specs.Extraction.{countX, countY, countZ, edgePoint};
-ghost use Rattle.cells.specs.CellWords.{rowFaces, lineFaces, planeFaces, blockFaces, edgeOffsets, CubeFace, Inner};
-ghost use Rattle.numbering.specs.FirstPass.{none, Numberable};
-ghost use Rattle.extract.specs.SecondPass.{place1, vertexIn, EdgesOf, CellsInside, RoomFor, Written, Writable, Mesh};
+ghost use Rattle.cells.specs.Words.{rowFaces, lineFaces, planeFaces, blockFaces, edgeOffsets, CubeFace, Inner};
+ghost use Rattle.numbering.specs.Words.{none, Numberable};
+ghost use Rattle.extract.specs.Words.{place1, vertexIn, EdgesOf, CellsInside, RoomFor, Written, Writable, Mesh};
 use cells::cell_edge;
 use cells::edge_offsets;
 use cells::is_plain;
@@ -32,8 +32,12 @@ fn place(
     edge: Edge,
     count: usize,
 ) -> usize
-    requires { ⌜ Counts (lattice .counts) × Inner (now values) lattice (edge .0) × (edge .0 < length (now table)) × (3 * place1 (now table) (edgePoint (now values) lattice iso) (now vertices, count) (edge .0) .1 ≤ length (now vertices)) ⌝ }
-    ensures { λ r. ⌜ (now (vertices .exit), r) ≡ place1 (now (table .entry)) (edgePoint (now (values .entry)) lattice iso) (now (vertices .entry), count) (edge .0) ⌝ }
+    requires { ⌜ Counts (lattice .counts)
+        × Inner (now values) lattice (edge .0)
+        × (edge .0 < length (now table))
+        × (3 * place1 (now table) (edgePoint (now values) lattice iso) (now vertices, count) (edge .0) .1 ≤ length (now vertices)) ⌝ }
+    ensures { λ r. ⌜ (now (vertices .exit), r) ≡ place1 (now (table .entry)) (edgePoint (now (values .entry)) lattice iso) (now (vertices .entry), count)
+        (edge .0) ⌝ }
 {
     if table[edge.place()] as usize != count + 1 {
         return count;
@@ -70,8 +74,13 @@ fn place_face(
     had: MeshSize,
     offsets: &[usize; 12],
 ) -> MeshSize
-    requires { ⌜ Counts (lattice .counts) × EdgesOf (now values) lattice (now offsets) (first .0) (length (now table)) × CubeFace face × RoomFor (now table) (edgePoint (now values) lattice iso) (now vertices) (now faces) had (mapFace (λ e. first .0 + getD (now offsets) e 0) (faceOf face) ∷ []) ⌝ }
-    ensures { λ r. ⌜ Written (now (table .entry)) (edgePoint (now (values .entry)) lattice iso) (now (vertices .entry)) (now (vertices .exit)) (now (faces .entry)) (now (faces .exit)) had r (mapFace (λ e. first .0 + getD (now (offsets .entry)) e 0) (faceOf face) ∷ []) ⌝ }
+    requires { ⌜ Counts (lattice .counts)
+        × EdgesOf (now values) lattice (now offsets) (first .0) (length (now table))
+        × CubeFace face
+        × RoomFor (now table) (edgePoint (now values) lattice iso) (now vertices) (now faces) had
+        (mapFace (λ e. first .0 + getD (now offsets) e 0) (faceOf face) ∷ []) ⌝ }
+    ensures { λ r. ⌜ Written (now (table .entry)) (edgePoint (now (values .entry)) lattice iso) (now (vertices .entry)) (now (vertices .exit))
+        (now (faces .entry)) (now (faces .exit)) had r (mapFace (λ e. first .0 + getD (now (offsets .entry)) e 0) (faceOf face) ∷ []) ⌝ }
 {
     let done = had.faces;
     let count = had.vertices;
@@ -105,8 +114,13 @@ fn write_row(
     offsets: &[usize; 12],
     triangles: &[i8; 4096],
 ) -> MeshSize
-    requires { ⌜ Counts (lattice .counts) × EdgesOf (now values) lattice (now offsets) (first .0) (length (now table)) × (case < 256) × RoomFor (now table) (edgePoint (now values) lattice iso) (now vertices) (now faces) had (rowFaces (now offsets) (first .0) case) × (now triangles ≡ flatTable) ⌝ }
-    ensures { λ r. ⌜ Written (now (table .entry)) (edgePoint (now (values .entry)) lattice iso) (now (vertices .entry)) (now (vertices .exit)) (now (faces .entry)) (now (faces .exit)) had r (rowFaces (now (offsets .entry)) (first .0) case) ⌝ }
+    requires { ⌜ Counts (lattice .counts)
+        × EdgesOf (now values) lattice (now offsets) (first .0) (length (now table))
+        × (case < 256)
+        × RoomFor (now table) (edgePoint (now values) lattice iso) (now vertices) (now faces) had (rowFaces (now offsets) (first .0) case)
+        × (now triangles ≡ flatTable) ⌝ }
+    ensures { λ r. ⌜ Written (now (table .entry)) (edgePoint (now (values .entry)) lattice iso) (now (vertices .entry)) (now (vertices .exit))
+        (now (faces .entry)) (now (faces .exit)) had r (rowFaces (now (offsets .entry)) (first .0) case) ⌝ }
 {
     let most = cubes::row_faces(triangles, case);
     let mut placed = had.vertices;
@@ -153,8 +167,13 @@ fn write_cell(
     offsets: &[usize; 12],
     triangles: &[i8; 4096],
 ) -> MeshSize
-    requires { ⌜ Counts (lattice .counts) × EdgesOf (now values) lattice (now offsets) (first .0) (length (now table)) × (case < 256) × RoomFor (now table) (edgePoint (now values) lattice iso) (now vertices) (now faces) had (rowFaces (now offsets) (first .0) case) × (now triangles ≡ flatTable) ⌝ }
-    ensures { λ r. ⌜ Written (now (table .entry)) (edgePoint (now (values .entry)) lattice iso) (now (vertices .entry)) (now (vertices .exit)) (now (faces .entry)) (now (faces .exit)) had r (rowFaces (now (offsets .entry)) (first .0) case) ⌝ }
+    requires { ⌜ Counts (lattice .counts)
+        × EdgesOf (now values) lattice (now offsets) (first .0) (length (now table))
+        × (case < 256)
+        × RoomFor (now table) (edgePoint (now values) lattice iso) (now vertices) (now faces) had (rowFaces (now offsets) (first .0) case)
+        × (now triangles ≡ flatTable) ⌝ }
+    ensures { λ r. ⌜ Written (now (table .entry)) (edgePoint (now (values .entry)) lattice iso) (now (vertices .entry)) (now (vertices .exit))
+        (now (faces .entry)) (now (faces .exit)) had r (rowFaces (now (offsets .entry)) (first .0) case) ⌝ }
 {
     if case == 0 {
         return had;
@@ -190,8 +209,14 @@ fn write_cells(
     offsets: &[usize; 12],
     triangles: &[i8; 4096],
 ) -> MeshSize
-    requires { ⌜ CellsInside (now values) (now table) lattice (from .0) × RoomFor (now table) (edgePoint (now values) lattice iso) (now vertices) (now faces) had (lineFaces (now values) (countY lattice) (countZ lattice) iso (from .0) (countZ lattice - 1)) × (now offsets ≡ edgeOffsets (countY lattice) (countZ lattice)) × (now triangles ≡ flatTable) ⌝ }
-    ensures { λ r. ⌜ Written (now (table .entry)) (edgePoint (now (values .entry)) lattice iso) (now (vertices .entry)) (now (vertices .exit)) (now (faces .entry)) (now (faces .exit)) had r (lineFaces (now (values .entry)) (countY lattice) (countZ lattice) iso (from .0) (countZ lattice - 1)) ⌝ }
+    requires { ⌜ CellsInside (now values) (now table) lattice (from .0)
+        × RoomFor (now table) (edgePoint (now values) lattice iso) (now vertices) (now faces) had
+        (lineFaces (now values) (countY lattice) (countZ lattice) iso (from .0) (countZ lattice - 1))
+        × (now offsets ≡ edgeOffsets (countY lattice) (countZ lattice))
+        × (now triangles ≡ flatTable) ⌝ }
+    ensures { λ r. ⌜ Written (now (table .entry)) (edgePoint (now (values .entry)) lattice iso) (now (vertices .entry)) (now (vertices .exit))
+        (now (faces .entry)) (now (faces .exit)) had r
+        (lineFaces (now (values .entry)) (countY lattice) (countZ lattice) iso (from .0) (countZ lattice - 1)) ⌝ }
 {
     let ny = lattice.counts[1];
     let nz = lattice.counts[2];
@@ -242,8 +267,14 @@ fn write_line(
     offsets: &[usize; 12],
     triangles: &[i8; 4096],
 ) -> MeshSize
-    requires { ⌜ CellsInside (now values) (now table) lattice (from .0) × RoomFor (now table) (edgePoint (now values) lattice iso) (now vertices) (now faces) had (lineFaces (now values) (countY lattice) (countZ lattice) iso (from .0) (countZ lattice - 1)) × (now offsets ≡ edgeOffsets (countY lattice) (countZ lattice)) × (now triangles ≡ flatTable) ⌝ }
-    ensures { λ r. ⌜ Written (now (table .entry)) (edgePoint (now (values .entry)) lattice iso) (now (vertices .entry)) (now (vertices .exit)) (now (faces .entry)) (now (faces .exit)) had r (lineFaces (now (values .entry)) (countY lattice) (countZ lattice) iso (from .0) (countZ lattice - 1)) ⌝ }
+    requires { ⌜ CellsInside (now values) (now table) lattice (from .0)
+        × RoomFor (now table) (edgePoint (now values) lattice iso) (now vertices) (now faces) had
+        (lineFaces (now values) (countY lattice) (countZ lattice) iso (from .0) (countZ lattice - 1))
+        × (now offsets ≡ edgeOffsets (countY lattice) (countZ lattice))
+        × (now triangles ≡ flatTable) ⌝ }
+    ensures { λ r. ⌜ Written (now (table .entry)) (edgePoint (now (values .entry)) lattice iso) (now (vertices .entry)) (now (vertices .exit))
+        (now (faces .entry)) (now (faces .exit)) had r
+        (lineFaces (now (values .entry)) (countY lattice) (countZ lattice) iso (from .0) (countZ lattice - 1)) ⌝ }
 {
     if is_plain(values, lattice.counts[1], lattice.counts[2], from, iso) {
         return had;

@@ -9,8 +9,8 @@ ghost use Prim.Native.Nat.{_*_, _<_, _≤_};
 ghost use lib.ListN.{length};
 ghost use Rattle.grid.specs.Grid.{Counts};
 ghost use Rattle.cells.specs.Extraction.{countX, countY, countZ};
-ghost use Rattle.numbering.specs.FirstPass.{Numberable, Counted};
-ghost use Rattle.extract.specs.SecondPass.{Writable};
+ghost use Rattle.numbering.specs.Words.{Numberable, Counted};
+ghost use Rattle.extract.specs.Words.{Writable};
 use grid::Lattice;
 use libc::STDIN_FILENO;
 use libc::STDOUT_FILENO;
@@ -139,7 +139,11 @@ fn replay_writing(
     totals: MeshSize,
     grid: u64,
 ) -> Compared
-    requires { ⌜ (at ≤ length (now text)) × Numberable (now values) (now table) lattice × Counted (now values) (now table) lattice iso totals × (totals .vertices ≤ 256) × (totals .faces ≤ 256) ⌝ }
+    requires { ⌜ (at ≤ length (now text))
+        × Numberable (now values) (now table) lattice
+        × Counted (now values) (now table) lattice iso totals
+        × (totals .vertices ≤ 256)
+        × (totals .faces ≤ 256) ⌝ }
     ensures { λ r. ⌜ (at ≤ r .next) × (r .next ≤ length (now (text .entry))) × (r .differ ≤ 1) ⌝ }
 {
     let v = 3 * totals.vertices;

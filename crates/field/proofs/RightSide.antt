@@ -8,17 +8,17 @@ use native.Mathlib.Nat.{sub-zero}
 use lib.ListN.{take}
 use lib.Ieee.{Float}
 use Rattle.lists.specs.Lists.{tabulate, part, zero32, zeros32}
-use Rattle.lists.specs.Tabulate.{tabulate-same}
+use Rattle.lists.specs.laws.Tabulate.{tabulate-same}
 use Rattle.grid.specs.Grid.{atEnd, boundaryRow}
-use Rattle.grid.specs.Rows.{boundary-row, no-end}
+use Rattle.grid.specs.laws.Rows.{boundary-row, no-end}
 use Rattle.grid.specs.declared.Grid.{Grid}
 use Rattle.points.specs.declared.point.Point.{Point}
 use Rattle.blur.specs.declared.kernel.Kernel.{Kernel}
 use Rattle.blur.specs.Blur.{sigmaOf, radiusOf, offsetCount, kernelOf}
-use Rattle.blur.specs.Inner.{KernelOf}
-use Rattle.blur.specs.FirstWeights.{first-weights}
+use Rattle.blur.specs.Words.{KernelOf}
+use Rattle.blur.specs.laws.FirstWeights.{first-weights}
 use Rattle.field.specs.Field.{rightSideAt, rightSideBy, rightSide}
-use Rattle.field.specs.Inner.{innerAt, rowAt}
+use Rattle.field.specs.Words.{innerAt, rowAt}
 
 module _ (n : ℕ) (h : Float) (x y z : List Float) where
   -- ---- a row off the boundary

@@ -1,4 +1,4 @@
 -- Document 01's Field: the definitions, then what callers and proofs know of them.
 pub mod Field
-pub mod Inner
-pub mod BoundaryZero
+pub mod Words
+pub mod laws

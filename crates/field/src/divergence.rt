@@ -7,7 +7,7 @@ ghost use Rattle.lists.specs.Lists.{tabulate};
 ghost use Rattle.numbers.specs.Arithmetic.{narrowed};
 ghost use Rattle.grid.specs.Grid.{Sides, allNodes};
 ghost use Rattle.field.specs.Field.{slopeAt, rightSideAt};
-ghost use Rattle.field.specs.Inner.{innerAt, rowAt};
+ghost use Rattle.field.specs.Words.{innerAt, rowAt};
 use grid::Grid;
 use grid::Node;
 
@@ -21,7 +21,12 @@ fn slope(v: &[f32], node: Node, stride: usize, h: f32) -> f32
 
 // The right side at a node off the boundary. The sum over the axes starts from -0.0, as the Rust's `sum` does, and `-h * h` is (-h)·h.
 fn inner(x: &[f32], y: &[f32], z: &[f32], node: Node, n: usize, h: f32) -> f32
-    requires { ⌜ (1 ≤ n) × (n ≤ n * n) × (n * n ≤ node .0) × (node .0 + n * n < length (now x)) × (length (now y) ≡ length (now x)) × (length (now z) ≡ length (now x)) ⌝ }
+    requires { ⌜ (1 ≤ n)
+        × (n ≤ n * n)
+        × (n * n ≤ node .0)
+        × (node .0 + n * n < length (now x))
+        × (length (now y) ≡ length (now x))
+        × (length (now z) ≡ length (now x)) ⌝ }
     ensures { λ r. ⌜ r ≡ innerAt n h (now (x .entry)) (now (y .entry)) (now (z .entry)) (node .0) ⌝ }
 {
     let divergence = -0.0 + slope(x, node, n * n, h) + slope(y, node, n, h) + slope(z, node, 1, h);
@@ -30,8 +35,14 @@ fn inner(x: &[f32], y: &[f32], z: &[f32], node: Node, n: usize, h: f32) -> f32
 
 // A row off the boundary. Its two ends are on it: they are written apart, so the loop has no test.
 fn inner_row(b: &mut [f32], x: &[f32], y: &[f32], z: &[f32], first: Node, h: f32)
-    requires { ⌜ (2 ≤ length (now b)) × (length (now b) ≤ 256) × (length (now b) * length (now b) ≤ first .0) × (first .0 + length (now b) + length (now b) * length (now b) ≤ length (now x)) × (length (now y) ≡ length (now x)) × (length (now z) ≡ length (now x)) ⌝ }
-    ensures { λ _. ⌜ now (b .exit) ≡ tabulate (length (now (b .entry))) (rowAt (length (now (b .entry))) h (now (x .entry)) (now (y .entry)) (now (z .entry)) (first .0) false) ⌝ }
+    requires { ⌜ (2 ≤ length (now b))
+        × (length (now b) ≤ 256)
+        × (length (now b) * length (now b) ≤ first .0)
+        × (first .0 + length (now b) + length (now b) * length (now b) ≤ length (now x))
+        × (length (now y) ≡ length (now x))
+        × (length (now z) ≡ length (now x)) ⌝ }
+    ensures { λ _. ⌜ now (b .exit) ≡ tabulate (length (now (b .entry)))
+        (rowAt (length (now (b .entry))) h (now (x .entry)) (now (y .entry)) (now (z .entry)) (first .0) false) ⌝ }
 {
     let n = b.len();
     b[0] = 0.0;
@@ -45,8 +56,14 @@ fn inner_row(b: &mut [f32], x: &[f32], y: &[f32], z: &[f32], first: Node, h: f32
 
 // A row, which may be on the boundary as a whole.
 fn any_row(b: &mut [f32], x: &[f32], y: &[f32], z: &[f32], first: Node, h: f32, boundary: bool)
-    requires { ⌜ (boundary ≡ false → (2 ≤ length (now b)) × (length (now b) ≤ 256) × (length (now b) * length (now b) ≤ first .0) × (first .0 + length (now b) + length (now b) * length (now b) ≤ length (now x))) × (length (now y) ≡ length (now x)) × (length (now z) ≡ length (now x)) ⌝ }
-    ensures { λ _. ⌜ now (b .exit) ≡ tabulate (length (now (b .entry))) (rowAt (length (now (b .entry))) h (now (x .entry)) (now (y .entry)) (now (z .entry)) (first .0) boundary) ⌝ }
+    requires { ⌜ (boundary ≡ false →
+        (2 ≤ length (now b))
+        × (length (now b) ≤ 256)
+        × (length (now b) * length (now b) ≤ first .0)
+        × (first .0 + length (now b) + length (now b) * length (now b) ≤ length (now x)))
+        × (length (now y) ≡ length (now x)) × (length (now z) ≡ length (now x)) ⌝ }
+    ensures { λ _. ⌜ now (b .exit) ≡ tabulate (length (now (b .entry)))
+        (rowAt (length (now (b .entry))) h (now (x .entry)) (now (y .entry)) (now (z .entry)) (first .0) boundary) ⌝ }
 {
     if boundary {
         lists::clear_f32(b);
@@ -57,7 +74,11 @@ fn any_row(b: &mut [f32], x: &[f32], y: &[f32], z: &[f32], first: Node, h: f32, 
 
 // Every row, with h narrowed.
 pub fn divergence(g: Grid, x: &[f32], y: &[f32], z: &[f32], b: &mut [f32])
-    requires { ⌜ Sides (g .nodes) × (length (now x) ≡ allNodes g) × (length (now y) ≡ allNodes g) × (length (now z) ≡ allNodes g) × (length (now b) ≡ allNodes g) ⌝ }
+    requires { ⌜ Sides (g .nodes)
+        × (length (now x) ≡ allNodes g)
+        × (length (now y) ≡ allNodes g)
+        × (length (now z) ≡ allNodes g)
+        × (length (now b) ≡ allNodes g) ⌝ }
     ensures { λ _. ⌜ now (b .exit) ≡ tabulate (allNodes g) (rightSideAt (g .nodes) (narrowed (g .step)) (now (x .entry)) (now (y .entry)) (now (z .entry))) ⌝ }
 {
     let n = g.nodes;

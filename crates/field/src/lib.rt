@@ -1,10 +1,11 @@
-// Document 01, "Field", beside `vector_field` and `rhs` of the Rust's poisson.rs: the right side of the solver's equation on one grid. The blur is the crate `blur`'s.
-// The Rust holds three components and blurs each into a new Vec; here each is spread into one slice and blurred to and fro between that and its own.
+// Document 01, "Field", beside `vector_field` and `rhs` of the Rust's poisson.rs: the right side of the solver's equation on one grid. The blur is the
+// crate `blur`'s. The Rust holds three components and blurs each into a new Vec; here each is spread into one slice and blurred to and fro between that
+// and its own.
 mod divergence;
 mod splat;
 
 ghost use mathlib.Core.Path.{_≡_};
-ghost use Prim.Native.Nat.{_*_, _<_, _≤_};
+ghost use Prim.Native.Nat.{_<_, _≤_};
 ghost use lib.ListN.{length};
 ghost use Rattle.lists.specs.Lists.{zeros32};
 ghost use Rattle.grid.specs.Grid.{Sides, allNodes};
@@ -24,7 +25,12 @@ fn component(
     s: &mut [f32],
     out: &mut [f32],
 )
-    requires { ⌜ Sides (g .nodes) × (radius ≤ 18) × (length (now kernel) ≡ offsetCount radius) × (a < 3) × (length (now s) ≡ allNodes g) × (length (now out) ≡ allNodes g) ⌝ }
+    requires { ⌜ Sides (g .nodes)
+        × (radius ≤ 18)
+        × (length (now kernel) ≡ offsetCount radius)
+        × (a < 3)
+        × (length (now s) ≡ allNodes g)
+        × (length (now out) ≡ allNodes g) ⌝ }
     ensures { λ _. ⌜ now (out .exit) ≡ componentOf g (usables (now (points .entry))) radius (now (kernel .entry)) a ⌝ }
 {
     splat::splat(g, points, a, s);
@@ -43,7 +49,14 @@ fn right_side_by(
     y: &mut [f32],
     z: &mut [f32],
 )
-    requires { ⌜ Sides (g .nodes) × (radius ≤ 18) × (length (now kernel) ≡ offsetCount radius) × (length (now b) ≡ allNodes g) × (length (now s) ≡ allNodes g) × (length (now x) ≡ allNodes g) × (length (now y) ≡ allNodes g) × (length (now z) ≡ allNodes g) ⌝ }
+    requires { ⌜ Sides (g .nodes)
+        × (radius ≤ 18)
+        × (length (now kernel) ≡ offsetCount radius)
+        × (length (now b) ≡ allNodes g)
+        × (length (now s) ≡ allNodes g)
+        × (length (now x) ≡ allNodes g)
+        × (length (now y) ≡ allNodes g)
+        × (length (now z) ≡ allNodes g) ⌝ }
     ensures { λ _. ⌜ now (b .exit) ≡ rightSideBy g (usables (now (points .entry))) radius (now (kernel .entry)) ⌝ }
 {
     component(points, g, kernel, radius, 0, s, x);
@@ -64,8 +77,17 @@ pub fn right_side(
     y: &mut [f32],
     z: &mut [f32],
 )
-    requires { ⌜ Sides (g .nodes) × (length (now b) ≡ allNodes g) × (length (now s) ≡ allNodes g) × (length (now x) ≡ allNodes g) × (length (now y) ≡ allNodes g) × (length (now z) ≡ allNodes g) ⌝ }
-    ensures { λ _. ⌜ (now (b .exit) ≡ rightSide g (usables (now (points .entry))) spacing smoothing) × (now (s .exit) ≡ zeros32 (allNodes g)) × (now (x .exit) ≡ zeros32 (allNodes g)) × (now (y .exit) ≡ zeros32 (allNodes g)) × (now (z .exit) ≡ zeros32 (allNodes g)) ⌝ }
+    requires { ⌜ Sides (g .nodes)
+        × (length (now b) ≡ allNodes g)
+        × (length (now s) ≡ allNodes g)
+        × (length (now x) ≡ allNodes g)
+        × (length (now y) ≡ allNodes g)
+        × (length (now z) ≡ allNodes g) ⌝ }
+    ensures { λ _. ⌜ (now (b .exit) ≡ rightSide g (usables (now (points .entry))) spacing smoothing)
+        × (now (s .exit) ≡ zeros32 (allNodes g))
+        × (now (x .exit) ≡ zeros32 (allNodes g))
+        × (now (y .exit) ≡ zeros32 (allNodes g))
+        × (now (z .exit) ≡ zeros32 (allNodes g)) ⌝ }
 {
     let kernel = Kernel::new(Kernel::sigma(smoothing, spacing, g.step));
     let radius = kernel.radius;

@@ -11,7 +11,7 @@ use lib.ListN.{length, take, drop, length-append, length-drop}
 use lib.Seq.{take-at}
 use lib.Ieee.{Float}
 use Rattle.lists.specs.Lists.{zero32, zeros32, padded}
-use Rattle.lists.specs.Padded.{cleared-padded}
+use Rattle.lists.specs.laws.Padded.{cleared-padded}
 use Rattle.points.specs.Points.{usables}
 use Rattle.settings.specs.declared.Settings.{Settings}
 use Rattle.settings.specs.declared.Lengths.{Lengths}
@@ -20,12 +20,12 @@ use Rattle.settings.specs.declared.Verdict.{Verdict}
 use Rattle.settings.specs.declared.Verdict.the-variants.{Pass, ScratchRoom}
 use Rattle.settings.specs.Answers.{accepts, refused}
 use Rattle.settings.specs.Refusals.{_when_, _then_, earlyVerdict, usableVerdict, extentVerdict}
-use Rattle.settings.specs.Passed.{both-pass, unless, ChecksPassed, ready}
+use Rattle.settings.specs.laws.Passed.{both-pass, unless, ChecksPassed, ready}
 use Rattle.scan.specs.Reconstruction.{extentFor, fieldFor}
 use Rattle.ending.specs.Slices.{FieldSlices}
 use Rattle.scan.specs.FieldAlone.{FieldResults, valuesVerdict, fieldVerdict, fieldAnswer, fieldUnder, fieldResults}
 use Rattle.field_call.specs.Outcome.{FieldDone}
-use Rattle.field_call.specs.Inner.{FieldShown}
+use Rattle.field_call.specs.Words.{FieldShown}
 
 -- ---- the check of the values' slice in the row of checks
 

@@ -1,7 +1,8 @@
--- What the needs of several functions share: a count is small enough to be a float, the sides of the depths, and the cell of a place from its parts. Assumes nothing.
+-- What the needs of several functions share: a count is small enough to be a float, the sides of the depths, and the cell of a place from its parts.
+-- Assumes nothing.
 use mathlib.Core.Path.{_≡_, refl, ap, _∙_}
 use mathlib.Core.List.{List, [], _∷_}
-use Prim.Native.Nat.{ℕ, _-_, _*_, _%_, _^_, _≤_, _<_, min}
+use Prim.Native.Nat.{ℕ, _-_, _*_, _%_, _^_, _≤_, min}
 use native.Mathlib.Nat.{one-mul, mod-eq-of-lt}
 use native.Mathlib.Omega.{arith}
 use lib.Dec.{T, le→leb}
@@ -12,8 +13,8 @@ use Rattle.grid.specs.declared.Along.{Along}
 use Rattle.grid.specs.declared.Cell.{Cell}
 use Rattle.grid.specs.declared.Grid.{Grid}
 use Rattle.grid.specs.Grid.{Sides, CellInside, placed, alongOf, axisAt, cellAt}
-use Rattle.grid.specs.Cells.{cell-inside}
-use Rattle.grid.specs.FloorCast.{floor-cast, placed-fits}
+use Rattle.grid.specs.laws.Cells.{cell-inside}
+use Rattle.grid.specs.laws.FloorCast.{floor-cast, placed-fits}
 
 -- ---- counts and sides
 

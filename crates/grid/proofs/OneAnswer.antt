@@ -1,6 +1,7 @@
 -- No second outcome fits: each public function, in the order of the sources. A Node, an Edge and a Vertex are told by their numbers. Assumes nothing.
 use mathlib.Core.Path.{_≡_, refl}
-use Rattle.lists.specs.OneAnswer.{OneOutcome, same, _&_}
+use Rattle.lists.specs.OneOutcome.{OneOutcome}
+use Rattle.lists.specs.laws.OneAnswer.{same, _&_}
 use Rattle.grid.specs.declared.Node.{Node}
 use Rattle.grid.specs.declared.Edge.{Edge}
 use Rattle.grid.specs.declared.Vertex.{Vertex}

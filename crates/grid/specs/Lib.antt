@@ -1,7 +1,3 @@
 -- Document 01's Grid: the definitions, then what is proved of them.
 pub mod Grid
-pub mod Numbering
-pub mod Rows
-pub mod Cells
-pub mod FloorCast
-pub mod Examples
+pub mod laws

@@ -2,7 +2,8 @@
 ghost use mathlib.Core.Path.{_≡_};
 ghost use Prim.Native.Nat.{_*_, _<_, _≤_};
 ghost use lib.ListN.{getD};
-ghost use Rattle.grid.specs.Grid.{Sides, Counts, Position, gridOf, nodeAt, coordsOf, rowStart, atEnd, onBoundary, boundaryRow, worldOf, latticeOf, allNodes};
+ghost use Rattle.grid.specs.Grid.{Sides, Counts, Position, gridOf, nodeAt, coordsOf, rowStart};
+ghost use Rattle.grid.specs.Grid.{atEnd, onBoundary, boundaryRow, worldOf, latticeOf, allNodes};
 use crate::Grid;
 use crate::Lattice;
 use crate::Node;

@@ -1,5 +1,6 @@
 // Document 01, "Grid", beside `Grid` of the Rust's poisson.rs: its records here, its functions in the modules. `numbering` is the only place that makes a
-// number of a position and a position of a number, and the only one that knows 3·node+axis; `cube` has the Grid, `block` the Lattice, `trilinear` cells and samples.
+// number of a position and a position of a number, and the only one that knows 3·node+axis; `cube` has the Grid, `block` the Lattice, `trilinear` cells
+// and samples.
 mod block;
 mod cube;
 mod numbering;

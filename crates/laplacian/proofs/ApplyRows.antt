@@ -1,5 +1,5 @@
--- A x row by row and plane by plane: what a row's function says of its row, what the loop over the rows between the outer planes has written, and the whole as three parts.
--- A node's plane is its number divided by n twice, so the first and the last plane are boundary. Assumes nothing.
+-- A x row by row and plane by plane: what a row's function says of its row, what the loop over the rows between the outer planes has written, and the
+-- whole as three parts. A node's plane is its number divided by n twice, so the first and the last plane are boundary. Assumes nothing.
 use mathlib.Core.Path.{_≡_, refl, sym, ap, _∙_}
 use mathlib.Core.Bool.{Bool, true, false, _||_, cond}
 use mathlib.Core.List.{List}
@@ -11,13 +11,13 @@ use lib.ListN.{length}
 use lib.Ieee.{Float}
 use borrow.Rule.Slice.PartMut.{putMid}
 use Rattle.lists.specs.Lists.{tabulate, part, zero32, zeros32}
-use Rattle.lists.specs.Tabulate.{tabulate-ext, tabulate-same}
-use Rattle.lists.specs.Fill.{Filled, filled-none, filled-done}
-use Rattle.lists.specs.Part.{length-part, filled-part}
+use Rattle.lists.specs.laws.Tabulate.{tabulate-ext, tabulate-same}
+use Rattle.lists.specs.laws.Fill.{Filled, filled-none, filled-done}
+use Rattle.lists.specs.laws.Part.{length-part, filled-part}
 use Rattle.grid.specs.Grid.{Sides, atEnd, boundaryNode, boundaryRow}
-use Rattle.grid.specs.Rows.{row-of, row-next, last-end, boundary-row}
+use Rattle.grid.specs.laws.Rows.{row-of, row-next, last-end, boundary-row}
 use Rattle.laplacian.specs.Laplacian.{stencilAt, applyAt}
-use Rattle.laplacian.specs.Inner.{innerRowAt}
+use Rattle.laplacian.specs.Words.{innerRowAt}
 
 module _ (n : ℕ) (x : List Float) where
   apply-at : (q : ℕ) (b : Bool) → boundaryNode n q ≡ b → cond b zero32 (stencilAt (n * n) n x q) ≡ applyAt n x q

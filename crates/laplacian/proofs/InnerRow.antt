@@ -8,11 +8,11 @@ use lib.ListN.{length, set, length-set}
 use lib.Seq.{set-set}
 use lib.Ieee.{Float}
 use Rattle.lists.specs.Lists.{tabulate, zero32}
-use Rattle.lists.specs.Fill.{Filled, filled-none, filled-more, filled-done}
+use Rattle.lists.specs.laws.Fill.{Filled, filled-none, filled-more, filled-done}
 use Rattle.grid.specs.Grid.{atEnd}
-use Rattle.grid.specs.Rows.{last-end, no-end}
+use Rattle.grid.specs.laws.Rows.{last-end, no-end}
 use Rattle.laplacian.specs.Laplacian.{stencilAt}
-use Rattle.laplacian.specs.Inner.{innerRowAt}
+use Rattle.laplacian.specs.Words.{innerRowAt}
 
 module _ (plane n : ℕ) (x : List Float) (first : ℕ) where
   row-at : (k : ℕ) (b : Bool) → atEnd n k ≡ b → cond b zero32 (stencilAt plane n x (first + k)) ≡ innerRowAt plane n x first k

@@ -1,5 +1,5 @@
--- Document 01, "Solver", its A x: 6x minus six neighbours at a node, at every node of the grid. Values are f32. Conjugate gradients are in Solver of the crate `solver`.
--- Definitions only; assumes nothing.
+-- Document 01, "Solver", its A x: 6x minus six neighbours at a node, at every node of the grid. Values are f32. Conjugate gradients are in Solver of the
+-- crate `solver`. Definitions only; assumes nothing.
 use mathlib.Core.Bool.{cond}
 use mathlib.Core.List.{List}
 use Prim.Native.Nat.{ℕ, _+_, _-_, _*_}

@@ -1,12 +1,12 @@
-// Document 01, "Solver", its A x, beside `apply` of the Rust's poisson.rs: 6x minus six neighbours, and 0 on the boundary. The Rust tests every node; here whole rows are
-// on the boundary or not, and of a row that is not only the two ends are, so that the loop along it has no test.
+// Document 01, "Solver", its A x, beside `apply` of the Rust's poisson.rs: 6x minus six neighbours, and 0 on the boundary. The Rust tests every node;
+// here whole rows are on the boundary or not, and of a row that is not only the two ends are, so that the loop along it has no test.
 ghost use mathlib.Core.Path.{_≡_};
 ghost use Prim.Native.Nat.{_+_, _-_, _*_, _≤_, _<_};
 ghost use lib.ListN.{length};
 ghost use Rattle.lists.specs.Lists.{tabulate};
 ghost use Rattle.grid.specs.Grid.{Sides, allNodes};
 ghost use Rattle.laplacian.specs.Laplacian.{stencilAt, applyAt, applied};
-ghost use Rattle.laplacian.specs.Inner.{innerRowAt};
+ghost use Rattle.laplacian.specs.Words.{innerRowAt};
 use grid::Grid;
 use grid::Node;
 
@@ -65,8 +65,8 @@ fn apply_between(g: Grid, x: &[f32], y: &mut [f32])
     }
 }
 
-// A x. The first and the last plane are all boundary and are written apart: with them in the loop, what a row reads would seem to reach outside x, and where y lies
-// next to x that makes the compiler give up vector code.
+// A x. The first and the last plane are all boundary and are written apart: with them in the loop, what a row reads would seem to reach outside x, and
+// where y lies next to x that makes the compiler give up vector code.
 pub fn apply(g: Grid, x: &[f32], y: &mut [f32])
     requires { ⌜ Sides (g .nodes) ⌝ }
     requires { ⌜ (length (now x) ≡ allNodes g) × (length (now y) ≡ allNodes g) ⌝ }

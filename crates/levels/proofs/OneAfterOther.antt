@@ -13,7 +13,7 @@ use Rattle.grid.specs.Grid.{gridOf, allNodes}
 use Rattle.points.specs.declared.point.Point.{Point}
 use Rattle.levels.specs.declared.Problem.{Problem}
 use Rattle.levels.specs.Levels.{coarsest, gridAt, nodesAt, startFrom, levelFrom, risen, solution}
-use Rattle.levels.specs.Slices.{LevelSlices}
+use Rattle.levels.specs.Words.{LevelSlices}
 use Rattle.levels.proofs.Fronts.{zeros-front}
 
 pub nodes-is : (t : Problem) (depth : ℕ) {g : Grid} → g ≡ gridAt t depth → allNodes g ≡ nodesAt depth

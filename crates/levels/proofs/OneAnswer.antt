@@ -1,6 +1,7 @@
 -- No second outcome fits: each public function that is seen outside the crate; `all_levels` and `start_front` are called for `solve` alone. Assumes nothing.
 use mathlib.Core.Path.{refl}
-use Rattle.lists.specs.OneAnswer.{OneOutcome, same, _&_}
+use Rattle.lists.specs.OneOutcome.{OneOutcome}
+use Rattle.lists.specs.laws.OneAnswer.{same, _&_}
 use Rattle.levels.proofs as fn
 
 pub problem-grid : OneOutcome fn.Problem.grid.ended fn.Problem.grid.Reads.Post

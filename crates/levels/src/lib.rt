@@ -1,12 +1,13 @@
-// Document 01, "Solver", its levels, beside `solve` of the Rust's poisson.rs. The Rust calls itself for the level before; here the levels rise in a loop, since each right side
-// depends only on its own level. Where the Rust makes each grid as a `Vec`, seven slices are lent here, of which each level takes the front.
+// Document 01, "Solver", its levels, beside `solve` of the Rust's poisson.rs. The Rust calls itself for the level before; here the levels rise in a loop,
+// since each right side depends only on its own level. Where the Rust makes each grid as a `Vec`, seven slices are lent here, of which each level takes
+// the front.
 ghost use mathlib.Core.Path.{_≡_};
 ghost use Prim.Native.Nat.{_≤_};
 ghost use lib.ListN.{length};
 ghost use Rattle.grid.specs.Grid.{Sides};
 ghost use Rattle.points.specs.Points.{usables};
 ghost use Rattle.levels.specs.Levels.{gridAt, nodesAt, solution};
-ghost use Rattle.levels.specs.Slices.{LevelSlices, Zeros, LevelsLeft};
+ghost use Rattle.levels.specs.Words.{LevelSlices, Zeros, LevelsLeft};
 
 mod rising;
 mod starting;
@@ -35,8 +36,8 @@ impl Problem {
     }
 }
 
-// The solution at every node of the level `depth`: depth up to 4 is one level, started from zeros; above it the levels are 4 to depth. The six slices after x are scratch:
-// rubbish at entry, zeros at exit.
+// The solution at every node of the level `depth`: depth up to 4 is one level, started from zeros; above it the levels are 4 to depth. The six slices
+// after x are scratch: rubbish at entry, zeros at exit.
 pub fn solve(
     problem: Problem,
     depth: u32,
@@ -52,7 +53,8 @@ pub fn solve(
     requires { ⌜ (1 ≤ depth) × (depth ≤ 8) ⌝ }
     requires { ⌜ LevelSlices (nodesAt depth) (now x) (now b) (now s) (now r) (now p) (now ap) ⌝ }
     requires { ⌜ length (now before) ≡ nodesAt depth ⌝ }
-    ensures { λ _. ⌜ LevelsLeft (nodesAt depth) (solution problem (usables (now (points .entry))) depth) (now (x .exit)) (now (before .exit)) (now (b .exit)) (now (s .exit)) (now (r .exit)) (now (p .exit)) (now (ap .exit)) ⌝ }
+    ensures { λ _. ⌜ LevelsLeft (nodesAt depth) (solution problem (usables (now (points .entry))) depth) (now (x .exit)) (now (before .exit))
+        (now (b .exit)) (now (s .exit)) (now (r .exit)) (now (p .exit)) (now (ap .exit)) ⌝ }
 {
     all_levels(problem, points, depth, x, before, b, s, r, p, ap);
     clear_scratch(before, b, s, r, p, ap);
@@ -67,7 +69,8 @@ fn clear_scratch(
     p: &mut [f32],
     ap: &mut [f32],
 )
-    ensures { λ _. ⌜ Zeros (now (before .entry)) (now (b .entry)) (now (s .entry)) (now (r .entry)) (now (p .entry)) (now (ap .entry)) (now (before .exit)) (now (b .exit)) (now (s .exit)) (now (r .exit)) (now (p .exit)) (now (ap .exit)) ⌝ }
+    ensures { λ _. ⌜ Zeros (now (before .entry)) (now (b .entry)) (now (s .entry)) (now (r .entry)) (now (p .entry)) (now (ap .entry)) (now (before .exit))
+        (now (b .exit)) (now (s .exit)) (now (r .exit)) (now (p .exit)) (now (ap .exit)) ⌝ }
 {
     lists::clear_f32(before);
     lists::clear_f32(b);

@@ -5,7 +5,7 @@ ghost use lib.ListN.{length, take};
 ghost use Rattle.grid.specs.Grid.{Sides, allNodes};
 ghost use Rattle.points.specs.Points.{usables};
 ghost use Rattle.levels.specs.Levels.{coarsest, gridAt, nodesAt, startFrom, levelFrom, risen, solution};
-ghost use Rattle.levels.specs.Slices.{LevelSlices};
+ghost use Rattle.levels.specs.Words.{LevelSlices};
 use crate::Problem;
 use crate::starting::start_front;
 use grid::Grid;
@@ -108,7 +108,8 @@ fn next_level(
     requires { ⌜ (1 ≤ depth) × (depth < 8) ⌝ }
     requires { ⌜ LevelSlices (length (now x)) (now x) (now b) (now s) (now r) (now p) (now ap) ⌝ }
     requires { ⌜ (length (now before) ≡ length (now x)) × (nodesAt depth ≤ length (now x)) × (nodesAt (depth + 1) ≤ length (now x)) ⌝ }
-    ensures { λ _. ⌜ take (nodesAt (depth + 1)) (now (x .exit)) ≡ levelFrom problem (usables (now (points .entry))) (gridAt problem (depth + 1)) (startFrom (gridAt problem depth) (gridAt problem (depth + 1)) (take (nodesAt depth) (now (x .entry)))) ⌝ }
+    ensures { λ _. ⌜ take (nodesAt (depth + 1)) (now (x .exit)) ≡ levelFrom problem (usables (now (points .entry))) (gridAt problem (depth + 1))
+        (startFrom (gridAt problem depth) (gridAt problem (depth + 1)) (take (nodesAt depth) (now (x .entry)))) ⌝ }
 {
     let g = problem.grid(depth + 1);
     start_front(problem.grid(depth), g, before, x);

@@ -1,6 +1,7 @@
 -- No second outcome fits: each public function, in the order of the sources. Assumes nothing.
 use mathlib.Core.Path.{refl}
-use Rattle.lists.specs.OneAnswer.{OneOutcome, same, _&_}
+use Rattle.lists.specs.OneOutcome.{OneOutcome}
+use Rattle.lists.specs.laws.OneAnswer.{same, _&_}
 use Rattle.lists.proofs as fn
 
 pub clear-from-f32 : OneOutcome fn.clear_from_f32.ended fn.clear_from_f32.Reads.Post

@@ -1,6 +1,7 @@
 -- No second outcome fits: each public function, in the order of the sources. A mesh's size is told by its two counts. Assumes nothing.
 use mathlib.Core.Path.{_≡_, refl}
-use Rattle.lists.specs.OneAnswer.{OneOutcome, same, _&_}
+use Rattle.lists.specs.OneOutcome.{OneOutcome}
+use Rattle.lists.specs.laws.OneAnswer.{same, _&_}
 use Rattle.meshes.specs.declared.MeshSize.{MeshSize}
 use Rattle.meshes.proofs as fn
 

@@ -1,5 +1,5 @@
--- Document 01, "Form by location": a mesh in two flat lists, three f32 a vertex and three vertex numbers a face; its size, when it is well formed, its faces and its
--- vertices one by one. `faces` of the crate `closed` reads the second list whole. Definitions only; assumes nothing.
+-- Document 01, "Form by location": a mesh in two flat lists, three f32 a vertex and three vertex numbers a face; its size, when it is well formed, its
+-- faces and its vertices one by one. `faces` of the crate `closed` reads the second list whole. Definitions only; assumes nothing.
 use mathlib.Core.Path.{_≡_}
 use mathlib.Core.List.{List, [], _∷_}
 use Prim.Native.Nat.{ℕ, _+_, _*_, _/_, _<_}

@@ -1,5 +1,4 @@
 -- A mesh in flat lists and the box of its vertices: the definitions, then what is proved of them.
 pub mod FlatMesh
 pub mod BoxOfVertices
-pub mod FlatFaces
-pub mod Examples
+pub mod laws

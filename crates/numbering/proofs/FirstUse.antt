@@ -7,18 +7,18 @@ use native.Mathlib.Nat.{zero-add}
 use lib.Ieee.{Float}
 use lib.ListN.{length, replicate}
 use Rattle.lists.specs.Lists.{tabulate}
-use Rattle.lists.specs.Tabulate.{tabulate-ext, tabulate-same}
+use Rattle.lists.specs.laws.Tabulate.{tabulate-ext, tabulate-same}
 use Rattle.closed.specs.Lists.{All}
 use Rattle.closed.specs.Faces.{Face, corners}
 use Rattle.closed.specs.Numbering.{dedup, used, slot}
-use Rattle.closed.specs.Renumber.{slot-nil}
+use Rattle.closed.specs.laws.Renumber.{slot-nil}
 use Rattle.grid.specs.Grid.{Counts}
 use Rattle.grid.specs.declared.Lattice.{Lattice}
 use Rattle.cells.specs.Extraction.{countX, countY, countZ, edgeFaces, vertexEdges}
-use Rattle.cells.specs.CellWords.{blockFaces}
-use Rattle.numbering.specs.FirstPass.{Marks, markAll, none, Numbered, Counted}
+use Rattle.cells.specs.Words.{blockFaces}
+use Rattle.numbering.specs.Words.{Marks, markAll, none, Numbered, Counted}
 use Rattle.meshes.specs.declared.MeshSize.{MeshSize}
-use Rattle.cells.specs.Cells.{edges-below, block-faces}
+use Rattle.cells.specs.laws.Cells.{edges-below, block-faces}
 use Rattle.numbering.proofs.Marking.{noted, marked}
 
 zeros-noted : (m : ℕ) → _≡_ {A = Marks} (replicate m 0, 0) (noted m [])

@@ -11,14 +11,14 @@ use lib.Dec.{eqb}
 use lib.ListN.{length, getD, set, length-set, length-append}
 use lib.Seq.{getD-set-same, getD-set-other}
 use Rattle.lists.specs.Lists.{tabulate}
-use Rattle.lists.specs.Tabulate.{tabulate-by, at-tabulate, length-tabulate}
+use Rattle.lists.specs.laws.Tabulate.{tabulate-by, at-tabulate, length-tabulate}
 use Rattle.closed.specs.Lists.{All, member, In, cells}
 use Rattle.closed.specs.Faces.{Face, corners}
 use Rattle.closed.specs.Numbering.{note, grow, slot}
-use Rattle.closed.specs.Counting.{same?, cells-one-more}
-use Rattle.closed.specs.Turning.{corners-append, length-corners}
-use Rattle.closed.specs.Renumber.{in-or-not, note-old, slot-in, slot-out, slot-note-new, slot-note-other, length-note-new}
-use Rattle.numbering.specs.FirstPass.{Marks, mark1, markAll, Numbered, Few}
+use Rattle.closed.specs.laws.Counting.{same?, cells-one-more}
+use Rattle.closed.specs.laws.Turning.{corners-append, length-corners}
+use Rattle.closed.specs.laws.Renumber.{in-or-not, note-old, slot-in, slot-out, slot-note-new, slot-note-other, length-note-new}
+use Rattle.numbering.specs.Words.{Marks, mark1, markAll, Numbered, Few}
 use Rattle.meshes.specs.declared.MeshSize.{MeshSize}
 
 -- ---- the edges noted so far, as the pass holds them

@@ -1,2 +1,2 @@
 -- The words of the first pass's contracts.
-pub mod FirstPass
+pub mod Words

@@ -7,8 +7,8 @@ ghost use Rattle.closed.specs.Faces.{faceOf, mapFace, corners};
 ghost use Rattle.closed.specs.Rows.{flatTable, emitted};
 ghost use Rattle.grid.specs.Grid.{planeStart};
 ghost use Rattle.cells.specs.Extraction.{countX, countY, countZ};
-ghost use Rattle.cells.specs.CellWords.{rowFaces, caseAt, lineFaces, planeFaces, blockFaces, edgeOffsets, EdgesIn, CubeFace};
-ghost use Rattle.numbering.specs.FirstPass.{mark1, markAll, Few, none, Numbered, Line, Plane, Numberable, Counted};
+ghost use Rattle.cells.specs.Words.{rowFaces, lineFaces, planeFaces, blockFaces, edgeOffsets, EdgesIn, CubeFace};
+ghost use Rattle.numbering.specs.Words.{mark1, markAll, Few, none, Numbered, Line, Plane, Numberable, Counted};
 use cells::cell_edge;
 use cells::edge_offsets;
 use cells::is_plain;
@@ -40,7 +40,8 @@ fn mark_face(
     offsets: &[usize; 12],
 ) -> usize
     requires { ⌜ EdgesIn (now offsets) (first .0) (length (now table)) × CubeFace face × (count ≤ 4294967200) ⌝ }
-    ensures { λ r. ⌜ (now (table .exit), r) ≡ markAll (now (table .entry), count) (corners (mapFace (λ e. first .0 + getD (now (offsets .entry)) e 0) (faceOf face) ∷ [])) ⌝ }
+    ensures { λ r. ⌜ (now (table .exit), r) ≡ markAll (now (table .entry), count)
+        (corners (mapFace (λ e. first .0 + getD (now (offsets .entry)) e 0) (faceOf face) ∷ [])) ⌝ }
 {
     let a = mark(table, cell_edge(first, face[0], offsets), count);
     let b = mark(table, cell_edge(first, face[1], offsets), a);
@@ -57,7 +58,11 @@ fn mark_row(
     offsets: &[usize; 12],
     triangles: &[i8; 4096],
 ) -> usize
-    requires { ⌜ EdgesIn (now offsets) (first .0) (length (now table)) × (case < 256) × (faces ≡ length (emitted case)) × (count ≤ 4294960000) × (now triangles ≡ flatTable) ⌝ }
+    requires { ⌜ EdgesIn (now offsets) (first .0) (length (now table))
+        × (case < 256)
+        × (faces ≡ length (emitted case))
+        × (count ≤ 4294960000)
+        × (now triangles ≡ flatTable) ⌝ }
     ensures { λ r. ⌜ (now (table .exit), r) ≡ markAll (now (table .entry), count) (corners (rowFaces (now (offsets .entry)) (first .0) case)) ⌝ }
 {
     let mut n = count;
@@ -79,7 +84,11 @@ fn number_cell(
     offsets: &[usize; 12],
     triangles: &[i8; 4096],
 ) -> MeshSize
-    requires { ⌜ EdgesIn (now offsets) (first .0) (length (now table)) × (case < 256) × (had .vertices ≤ 4294960000) × (had .faces ≤ 4294960000) × (now triangles ≡ flatTable) ⌝ }
+    requires { ⌜ EdgesIn (now offsets) (first .0) (length (now table))
+        × (case < 256)
+        × (had .vertices ≤ 4294960000)
+        × (had .faces ≤ 4294960000)
+        × (now triangles ≡ flatTable) ⌝ }
     ensures { λ r. ⌜ Numbered (now (table .entry)) (now (table .exit)) had r (rowFaces (now (offsets .entry)) (first .0) case) ⌝ }
 {
     if case == 0 {
@@ -109,7 +118,8 @@ fn number_cells(
     triangles: &[i8; 4096],
 ) -> MeshSize
     requires { ⌜ Line (now values) (now table) ny nz (from .0) had × (now offsets ≡ edgeOffsets ny nz) × (now triangles ≡ flatTable) ⌝ }
-    ensures { λ r. ⌜ Numbered (now (table .entry)) (now (table .exit)) had r (lineFaces (now (values .entry)) ny nz iso (from .0) (nz - 1)) × Few r (from .0 + nz) ⌝ }
+    ensures { λ r. ⌜ Numbered (now (table .entry)) (now (table .exit)) had r (lineFaces (now (values .entry)) ny nz iso (from .0) (nz - 1))
+        × Few r (from .0 + nz) ⌝ }
 {
     let mut near = side_of(values, ny, nz, from, iso);
     let mut vertices = had.vertices;
@@ -147,7 +157,8 @@ fn number_line(
     triangles: &[i8; 4096],
 ) -> MeshSize
     requires { ⌜ Line (now values) (now table) ny nz (from .0) had × (now offsets ≡ edgeOffsets ny nz) × (now triangles ≡ flatTable) ⌝ }
-    ensures { λ r. ⌜ Numbered (now (table .entry)) (now (table .exit)) had r (lineFaces (now (values .entry)) ny nz iso (from .0) (nz - 1)) × Few r (from .0 + nz) ⌝ }
+    ensures { λ r. ⌜ Numbered (now (table .entry)) (now (table .exit)) had r (lineFaces (now (values .entry)) ny nz iso (from .0) (nz - 1))
+        × Few r (from .0 + nz) ⌝ }
 {
     if is_plain(values, ny, nz, from, iso) {
         return had;

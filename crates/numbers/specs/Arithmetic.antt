@@ -19,9 +19,9 @@ unfoldable pub whole : ℕ → ℕ
 unfolding rootIn size
 whole n = rootIn (size n) n
 
--- The value of the format f that is nearest to √n, in units of f's smallest value 2 ^ -low. Of √n's whole part the format keeps the `prec` leading digits and drops k,
--- so the result is a multiple of 2 ^ k units: the q-th one, or the next where √n is past the middle (q + 1/2) * 2 ^ k of the two.
--- Both sides squared and times 4, that compares 4 * n with ((2 * q + 1) * 2 ^ k) ^ 2. It does with √n what `round` does with a fraction.
+-- The value of the format f that is nearest to √n, in units of f's smallest value 2 ^ -low. Of √n's whole part the format keeps the `prec` leading digits
+-- and drops k, so the result is a multiple of 2 ^ k units: the q-th one, or the next where √n is past the middle (q + 1/2) * 2 ^ k of the two. Both sides
+-- squared and times 4, that compares 4 * n with ((2 * q + 1) * 2 ^ k) ^ 2. It does with √n what `round` does with a fraction.
 unfoldable pub rootRounded : Format → ℕ → Float
 unfolding whole size units
 rootRounded f n =

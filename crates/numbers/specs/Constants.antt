@@ -1,6 +1,6 @@
--- The constants of 01's rules, each once. A whole number or a half is written by its bit pattern, as a literal of the code stands in a goal; a decimal is the
--- fraction that it means, rounded once. `ConstantValues` proves which number each pattern is, and which pattern each fraction. Definitions only; assumes nothing.
--- (f32's zero is `zero32` of the crate `lists`, which rests on nothing.)
+-- The constants of 01's rules, each once. A whole number or a half is written by its bit pattern, as a literal of the code stands in a goal; a decimal is
+-- the fraction that it means, rounded once. `ConstantValues` proves which number each pattern is, and which pattern each fraction. Definitions only;
+-- assumes nothing. (f32's zero is `zero32` of the crate `lists`, which rests on nothing.)
 use Prim.Native.Nat.{_^_}
 use mathlib.Core.Bool.{false}
 use lib.Ieee.{Float, binary32, binary64, round, ofBits, neg}

@@ -1,5 +1,6 @@
--- What "the same" and "negated" mean between two values of one computation and of the one with every sign turned: +0 and -0 count as equal, a NaN matches a NaN.
--- Negated operands give the negated result but for a sum that is exactly zero, which is +0 both times; so no closer relation is kept by `add`. Definitions only.
+-- What "the same" and "negated" mean between two values of one computation and of the one with every sign turned: +0 and -0 count as equal, a NaN matches
+-- a NaN. Negated operands give the negated result but for a sum that is exactly zero, which is +0 both times; so no closer relation is kept by `add`.
+-- Definitions only.
 use mathlib.Core.Path.{_≡_}
 use mathlib.Core.Logic.{_⊎_}
 use mathlib.Core.Bool.{Bool, false}

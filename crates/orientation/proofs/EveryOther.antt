@@ -1,5 +1,5 @@
--- A loop over the elements 0, s, 2s.. of a list: what is left from here gives what all gives from the start (`Asking`). Between two of them no number is a multiple of s, for q·s + r
--- with r below s leaves r. d is what is read past a list's end. Assumes nothing.
+-- A loop over the elements 0, s, 2s.. of a list: what is left from here gives what all gives from the start (`Asking`). Between two of them no number is
+-- a multiple of s, for q·s + r with r below s leaves r. d is what is read past a list's end. Assumes nothing.
 use mathlib.Core.Path.{_≡_, refl, sym, ap, _∙_}
 use mathlib.Core.Bool.{Bool, cond}
 use mathlib.Core.List.{List, [], _∷_, foldl}

@@ -1,4 +1,3 @@
 -- Document 01's orientation: the definitions, then what is proved of them.
 pub mod Orientation
-pub mod Orienting
-pub mod Examples
+pub mod laws

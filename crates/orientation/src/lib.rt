@@ -1,5 +1,5 @@
-// Document 01, "Box, level, orientation, trim": the orientation. The faces look where the field grows, as the points' normals do. Beside `orient` and `face_normal`
-// of the Rust's poisson.rs. A face's centre, which the trim uses too, and its normal are in `triangle`.
+// Document 01, "Box, level, orientation, trim": the orientation. The faces look where the field grows, as the points' normals do. Beside `orient` and
+// `face_normal` of the Rust's poisson.rs. A face's centre, which the trim uses too, and its normal are in `triangle`.
 mod triangle;
 
 ghost use mathlib.Core.Path.{_≡_};

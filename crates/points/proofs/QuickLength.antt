@@ -1,5 +1,5 @@
--- A square strictly between 1e-24 and 1e30 has a usable length for its root: `quick`. For the root keeps order, and the roots of those two are 1e-12's f32 exactly and a finite number.
--- Assumes nothing.
+-- A square strictly between 1e-24 and 1e30 has a usable length for its root: `quick`. For the root keeps order, and the roots of those two are 1e-12's
+-- f32 exactly and a finite number. Assumes nothing.
 use mathlib.Core.Path.{_≡_, refl, subst}
 use mathlib.Core.Bool.{true, false, false≢true}
 use lib.Dec.{T}
@@ -8,9 +8,9 @@ use lib.Ieee.{Float, nan, inf, fin, binary32, round, ofBits, lt, le, isNan}
 use lib.Ieee.Scale.{finite}
 use Rattle.numbers.specs.Constants.{trillionth32}
 use Rattle.numbers.specs.Arithmetic.{rooted}
-use Rattle.numbers.specs.RootOrder.{rooted-mono}
-use Rattle.numbers.specs.SumOfSquares.{Square, none, far, some, lt-le, le-not, not-negative}
-use Rattle.numbers.specs.RootSquares.{HeldSquare, root-held}
+use Rattle.numbers.specs.laws.RootOrder.{rooted-mono}
+use Rattle.numbers.specs.laws.SumOfSquares.{Square, none, far, some, lt-le, le-not, not-negative}
+use Rattle.numbers.specs.laws.RootSquares.{HeldSquare, root-held}
 use Rattle.points.specs.Points.{lengthUsability, isUsable}
 
 -- ---- the two bounds, 1e-24 and 1e30 as the code's literals stand in a goal, and their roots

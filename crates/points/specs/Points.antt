@@ -1,5 +1,5 @@
--- Document 01, "Points", in its order: what a point is, why it is skipped, its normal's length, its units; then the list of usable points, of which everything above speaks.
--- Only `given` and `pointAt` know how many numbers a point has. Definitions only; assumes nothing.
+-- Document 01, "Points", in its order: what a point is, why it is skipped, its normal's length, its units; then the list of usable points, of which
+-- everything above speaks. Only `given` and `pointAt` know how many numbers a point has. Definitions only; assumes nothing.
 use mathlib.Core.Bool.{Bool, true, false, cond, _&&_}
 use mathlib.Core.List.{List, [], _∷_}
 use Prim.Native.Nat.{ℕ, _+_, _*_, _/_}

@@ -5,7 +5,8 @@ ghost use lib.ListN.{length};
 ghost use lib.Ieee.{binary32};
 ghost use lib.Ieee.Scale as Scale;
 ghost use Rattle.numbers.specs.Arithmetic.{rooted};
-ghost use Rattle.points.specs.Points.{given, pointAt, squaresOf, lengthOf, lengthUsability, placedOf, usabilityOf, isUsable, usableOf, positionOf, unitOf, usables};
+ghost use Rattle.points.specs.Points.{given, pointAt, squaresOf, lengthOf, lengthUsability, placedOf};
+ghost use Rattle.points.specs.Points.{usabilityOf, isUsable, usableOf, positionOf, unitOf, usables};
 
 // A position and a normal.
 pub struct Point {

@@ -1,5 +1,5 @@
-// Functions of `points`, `search` and `grid` for C and Rust to call, so that they can be tested and timed on any processor. Each is that of its crate, and its contract
-// too. The caller keeps what a `requires` asks: lengths that fit. Nothing checks it at the boundary.
+// Functions of `points`, `search` and `grid` for C and Rust to call, so that they can be tested and timed on any processor. Each is that of its crate,
+// and its contract too. The caller keeps what a `requires` asks: lengths that fit. Nothing checks it at the boundary.
 ghost use mathlib.Core.Path.{_≡_};
 ghost use mathlib.Core.List.{[], _∷_};
 ghost use Prim.Native.Nat.{_*_, _≤_};

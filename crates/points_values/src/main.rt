@@ -1,5 +1,6 @@
-// Worked values of `points` and `search`: each case makes its points by the rule of rule.rt, and the functions' answers are printed as counts and bit patterns. The file
-// `stdout` was written by native/src/bin/points_values.rs: the same rule, and document 01's Points, box and Spacing by brute search, in Rust.
+// Worked values of `points` and `search`: each case makes its points by the rule of rule.rt, and the functions' answers are printed as counts and bit
+// patterns. The file `stdout` was written by native/src/bin/points_values.rs: the same rule, and document 01's Points, box and Spacing by brute search,
+// in Rust.
 mod rule;
 
 use libc::STDOUT_FILENO;

@@ -1,6 +1,7 @@
 -- No second outcome fits: each public function, in the order of the source. Answer and slices are said by equations. Assumes nothing.
 use mathlib.Core.Path.{refl}
-use Rattle.lists.specs.OneAnswer.{OneOutcome, same, _&_}
+use Rattle.lists.specs.OneOutcome.{OneOutcome}
+use Rattle.lists.specs.laws.OneAnswer.{same, _&_}
 use Rattle.poisson.proofs as fn
 
 pub poisson-reconstruction : OneOutcome fn.poisson_reconstruction.ended fn.poisson_reconstruction.Reads.Post

@@ -10,7 +10,7 @@ use Rattle.settings.specs.declared.Settings.{Settings}
 use Rattle.settings.specs.declared.Lengths.{Lengths}
 use Rattle.settings.specs.declared.Verdict.{Verdict}
 use Rattle.settings.specs.Refusals.{_then_, earlyVerdict, usableVerdict, extentVerdict, vertexRoomVerdict, faceRoomVerdict, roomVerdict, meshVerdict}
-use Rattle.settings.specs.Passed.{then-assoc}
+use Rattle.settings.specs.laws.Passed.{then-assoc}
 use Rattle.scan.specs.Reconstruction.{extentFor, vertexTotal, faceTotal, keptFaces, lateVerdict, verdictOf}
 
 pub first-checks : (xs : List Float) (st : Settings) (lent : Lengths)

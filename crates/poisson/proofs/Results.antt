@@ -11,7 +11,7 @@ use lib.Ieee.{Float}
 use Rattle.lists.specs.Lists.{zero32, padded}
 use Rattle.closed.specs.Faces.{corners}
 use Rattle.grid.specs.Grid.{Sides, Counts, latticeOf}
-use Rattle.grid.specs.Rows.{cube-counts}
+use Rattle.grid.specs.laws.Rows.{cube-counts}
 use Rattle.points.specs.declared.point.Point.{Point}
 use Rattle.points.specs.Points.{usables}
 use Rattle.settings.specs.declared.Settings.{Settings}
@@ -21,15 +21,15 @@ use Rattle.settings.specs.declared.Verdict.{Verdict}
 use Rattle.settings.specs.declared.Verdict.the-variants.{Pass}
 use Rattle.settings.specs.Answers.{accepts, refused, answerUnder}
 use Rattle.settings.specs.Refusals.{_then_, earlyVerdict, usableVerdict, extentVerdict, roomVerdict, meshVerdict}
-use Rattle.settings.specs.Passed.{both-pass, refusal-stands, ChecksPassed, ready, room-fits}
+use Rattle.settings.specs.laws.Passed.{both-pass, refusal-stands, ChecksPassed, ready, room-fits}
 use Rattle.meshes.specs.declared.MeshSize.{MeshSize}
 use Rattle.scan.specs.Reconstruction.{Results, gridFor, latticeFor, fieldFor, levelFor, extentFor, vertexTotal}
 use Rattle.scan.specs.Reconstruction.{faceTotal, keptVertices, keptFaces, acceptedAnswer, lateVerdict, resultsUnder, reconstructed}
 use Rattle.ending.specs.Slices.{Slices}
-use Rattle.scan.specs.Stages.{trimmedAnswer}
-use Rattle.scan.specs.MeshRoom.{few-vertices, few-faces}
+use Rattle.scan.specs.Words.{trimmedAnswer}
+use Rattle.scan.specs.laws.MeshRoom.{few-vertices, few-faces}
 use Rattle.poisson.specs.Outcome.{Done}
-use Rattle.poisson.specs.Inner.{Shown}
+use Rattle.poisson.specs.Words.{Shown}
 use Rattle.poisson.proofs.Order.{first-checks, late-checks}
 use Rattle.poisson.proofs.Showing.{refused-shown, made-shown}
 

@@ -7,15 +7,14 @@ use native.Mathlib.Omega.{arith}
 use lib.ListN.{length, take}
 use lib.Ieee.{Float}
 use Rattle.closed.specs.Faces.{corners}
-use Rattle.closed.specs.Turning.{length-corners}
+use Rattle.closed.specs.laws.Turning.{length-corners}
 use Rattle.points.specs.declared.point.Point.{Point}
 use Rattle.settings.specs.declared.Settings.{Settings}
 use Rattle.settings.specs.declared.Answer.{Answer}
 use Rattle.settings.specs.declared.Verdict.{Verdict}
 use Rattle.settings.specs.Answers.{accepts, refused, answerUnder}
-use Rattle.meshes.specs.FlatMesh.{vertexCount}
 use Rattle.scan.specs.Reconstruction.{acceptedAnswer, keptVertices, keptFaces, resultsUnder}
-use Rattle.poisson.specs.Inner.{Shown}
+use Rattle.poisson.specs.Words.{Shown}
 
 module _ (ps : List Point) (st : Settings) (r : Answer) (vs : List Float) (fs : List ℕ) where
   pub refused-shown : (v : Verdict) → accepts v ≡ false → r ≡ refused v → Shown (resultsUnder v ps st) r vs fs

@@ -7,7 +7,7 @@ use mathlib.Core.List.{List, [], _∷_}
 use Prim.Native.Nat.{ℕ, _+_, _-_, _*_, _%_, _^_, _≤_}
 use native.Mathlib.Decide.{decLe}
 use native.Mathlib.Omega.{arith}
-use borrow.Author.Tests.{eqb-true, eq-eqb, le-ltb}
+use borrow.Author.Tests.{eq-eqb, le-ltb}
 use lib.Dec.{ltb, eqb}
 use lib.ListN.{length}
 use lib.Ieee.{Float, ofBits, binary64, lt, eq}
@@ -16,10 +16,10 @@ use Rattle.closed.specs.Lists.{bit, sum3}
 use Rattle.closed.specs.Numbering.{used}
 use Rattle.closed.specs.Table.{differ}
 use Rattle.closed.specs.Grid.{gridFaces, crossedCount}
-use Rattle.closed.specs.Sums.{sum3-le, sum3-const}
-use Rattle.closed.specs.Counting.{bit-le}
-use Rattle.closed.specs.Vertices.{vertices-count}
-use Rattle.closed.specs.Bounds.{faces-le}
+use Rattle.closed.specs.laws.Sums.{sum3-le, sum3-const}
+use Rattle.closed.specs.laws.Counting.{bit-le}
+use Rattle.closed.specs.laws.Vertices.{vertices-count}
+use Rattle.closed.specs.laws.Bounds.{faces-le}
 use Rattle.grid.specs.Grid.{gridOf, latticeOf}
 use Rattle.points.specs.declared.point.Point.{Point}
 use Rattle.points.specs.Points.{numbersPerPoint, given, usables}
@@ -28,10 +28,10 @@ use Rattle.settings.specs.declared.Lengths.{Lengths}
 use Rattle.settings.specs.declared.Answer.{Answer}
 use Rattle.settings.specs.declared.Verdict.{Verdict}
 use Rattle.settings.specs.declared.Verdict.the-variants.{Pass, PointSlice, NoPoints, Depth, Smoothing, ScratchRoom, TooFew, Flat, VertexRoom, FaceRoom, NoFace}
-use Rattle.settings.specs.Answers.{numberOf, accepts, refused}
+use Rattle.settings.specs.Answers.{numberOf, accepts}
 use Rattle.settings.specs.Refusals.{_when_, _then_, pointSliceVerdict, noPointsVerdict, depthVerdict, smoothingVerdict, anyShort, scratchVerdict}
 use Rattle.settings.specs.Refusals.{earlyVerdict, usableVerdict, extentVerdict, vertexRoomVerdict, faceRoomVerdict, meshVerdict}
-use Rattle.settings.specs.Passed.{accepted, number-under, depth-fits, Fit, ready}
+use Rattle.settings.specs.laws.Passed.{accepted, number-under, depth-fits, Fit, ready}
 use Rattle.cells.specs.Extraction.{edgeFaces, vertexEdges}
 use Rattle.scan.specs.Reconstruction.{gridFor, extentFor, vertexTotal, faceTotal, keptFaces, acceptedAnswer, lateVerdict, verdictOf, reconstructed}
 use Rattle.preview.specs.Preview.{Previewed}

@@ -8,8 +8,8 @@ use native.Mathlib.Omega.{arith}
 use borrow.Author.Tests.{eqb-true}
 use lib.Dec.{ltb, eqb}
 use Rattle.closed.specs.Lists.{member, upto, In}
-use Rattle.closed.specs.Counting.{every-all}
-use Rattle.closed.specs.Renumber.{all-in, in-at, at-upto}
+use Rattle.closed.specs.laws.Counting.{every-all}
+use Rattle.closed.specs.laws.Renumber.{all-in, in-at, at-upto}
 use Rattle.preview.specs.Preview.{hexDigit, inHex}
 
 pub digit-is : (d : ℕ) → d < 16 → hexDigit d ≡ cond (ltb d 10) (48 + d) (55 + d)

@@ -8,7 +8,7 @@ use sheet::Header;
 use sheet::Sheet;
 ghost use mathlib.Core.Path.{_≡_};
 ghost use Prim.Native.Nat.{_<_, _≤_};
-ghost use Rattle.sheet.specs.SheetRoom.{Roomy};
+ghost use Rattle.sheet.specs.laws.SheetRoom.{Roomy};
 ghost use Rattle.preview.specs.Preview.{hexDigit, inHex, Previewed};
 
 // A sheet is at most 24 + 24·256 = 6,168 bytes: one more is read, so that a longer one is seen to be.

@@ -1,7 +1,7 @@
 -- The word that `next_word` finds is the word that the definitions speak of: its start and its end are theirs. By rewriting with the two equations.
 use Prim.Native.Nat.{ℕ, _+_, _-_}
-use mathlib.Core.Path.{_≡_, refl, ap}
-use mathlib.Core.Bool.{true, false}
+use mathlib.Core.Path.{_≡_}
+use mathlib.Core.Bool.{false}
 use mathlib.Core.List.{List}
 use lib.ListN.{take, drop}
 use Rattle.replay.specs.Words.{leading, startOf, endOf, wordOf}

@@ -1,4 +1,5 @@
--- What the programs read that replay lists of worked values: words between blanks, and numbers in hexadecimal and in decimal. Definitions only; assumes nothing.
+-- What the programs read that replay lists of worked values: words between blanks, and numbers in hexadecimal and in decimal. Definitions only; assumes
+-- nothing.
 use Prim.Native.Nat.{ℕ, suc, _+_, _-_, _*_, _%_, _^_}
 use mathlib.Core.Bool.{Bool, true, false, Bool·beq, cond}
 use mathlib.Core.List.{List, [], _∷_}

@@ -1,8 +1,8 @@
 // Lists of worked values, for the programs that replay them: words between blanks, numbers in hexadecimal and in decimal.
 ghost use mathlib.Core.Path.{_≡_};
-ghost use mathlib.Core.Bool.{Bool, true, false};
+ghost use mathlib.Core.Bool.{true, false};
 ghost use Prim.Native.Nat.{_+_, _≤_, _<_};
-ghost use lib.ListN.{length, take, drop};
+ghost use lib.ListN.{length, drop};
 ghost use Rattle.replay.specs.Words.{blank, leading, digitOf, hexOf, decimalOf, endOf, wordOf};
 
 // A word's first place, and the place past its last byte.
@@ -35,7 +35,9 @@ fn past(text: &[u8], from: usize, kind: bool) -> usize
 // The next word from a place on. Where there is none it is empty, at the text's end.
 pub fn next_word(text: &[u8], from: usize) -> Word
     requires { ⌜ from ≤ length (now text) ⌝ }
-    ensures { λ r. ⌜ (r .from ≡ from + leading true (drop from (now (text .entry)))) × (r .to ≡ r .from + leading false (drop (r .from) (now (text .entry)))) × (r .to ≤ length (now (text .entry))) ⌝ }
+    ensures { λ r. ⌜ (r .from ≡ from + leading true (drop from (now (text .entry))))
+        × (r .to ≡ r .from + leading false (drop (r .from) (now (text .entry))))
+        × (r .to ≤ length (now (text .entry))) ⌝ }
 {
     let start = past(text, from, true);
     let end = past(text, start, false);
@@ -110,7 +112,9 @@ pub fn read_hex(text: &[u8], at: usize) -> Number
 
 pub fn read_decimal(text: &[u8], at: usize) -> Number
     requires { ⌜ at ≤ length (now text) ⌝ }
-    ensures { λ r. ⌜ (r .value ≡ decimalOf (wordOf at (now (text .entry)))) × (r .next ≡ endOf at (now (text .entry))) × (r .next ≤ length (now (text .entry))) ⌝ }
+    ensures { λ r. ⌜ (r .value ≡ decimalOf (wordOf at (now (text .entry))))
+        × (r .next ≡ endOf at (now (text .entry)))
+        × (r .next ≤ length (now (text .entry))) ⌝ }
 {
     let word = next_word(text, at);
     let from = word.from;

@@ -1,2 +1,2 @@
 -- The words of contracts inside the crate; what a root is stands in the crate `numbers`.
-pub mod RootWords
+pub mod Words

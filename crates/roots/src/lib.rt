@@ -5,7 +5,7 @@ ghost use mathlib.Core.Path.{_≡_};
 ghost use Prim.Native.Nat.{_+_, _-_, _*_, _^_, _≤_, _<_};
 ghost use lib.Ieee.{binary32, binary64};
 ghost use Rattle.numbers.specs.Arithmetic.{rooted};
-ghost use Rattle.roots.specs.RootWords.{IsFormat, RootOf};
+ghost use Rattle.roots.specs.Words.{IsFormat, RootOf};
 
 // x - 1, and 0 for 0.
 fn less_one(x: u64) -> u64

@@ -8,10 +8,10 @@ use lib.ListN.{length, take}
 use lib.Seq.{length-take-le}
 use lib.Ieee.{Float}
 use Rattle.settings.specs.declared.Settings.{Settings}
-use Rattle.settings.specs.Passed.{Fit, ChecksPassed}
+use Rattle.settings.specs.laws.Passed.{Fit, ChecksPassed}
 use Rattle.ending.specs.Slices.{Scratch, Slices}
 use Rattle.scan.specs.Reconstruction.{lengthsOf}
-use Rattle.scan.specs.Stages.{Lent}
+use Rattle.scan.specs.Words.{Lent}
 
 -- the parts of n values each, and all of the distances
 abbrev pub PartsLent : (xs : List Float) → Settings → Scratch → (n : ℕ) → Type 0

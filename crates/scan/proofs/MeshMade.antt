@@ -6,24 +6,24 @@ use Prim.Native.Nat.{ℕ, _*_, _^_, _≤_}
 use native.Mathlib.Omega.{arith}
 use lib.ListN.{length}
 use lib.Ieee.{Float}
-use Rattle.lists.specs.Tabulate.{length-tabulate}
+use Rattle.lists.specs.laws.Tabulate.{length-tabulate}
 use Rattle.closed.specs.Faces.{Face, corners, faces}
-use Rattle.closed.specs.Turning.{faces-corners, length-corners}
+use Rattle.closed.specs.laws.Turning.{faces-corners, length-corners}
 use Rattle.grid.specs.declared.Grid.{Grid}
 use Rattle.grid.specs.declared.Lattice.{Lattice}
 use Rattle.grid.specs.Grid.{Counts, latticeOf}
 use Rattle.points.specs.declared.point.Point.{Point}
 use Rattle.settings.specs.declared.Settings.{Settings}
 use Rattle.cells.specs.Extraction.{countX, countY, countZ, vertexEdges, edgeFaces, extractedVertices, extractedFaces}
-use Rattle.numbering.specs.FirstPass.{edgeTable}
-use Rattle.extract.specs.SecondPass.{Writable, Mesh}
+use Rattle.numbering.specs.Words.{edgeTable}
+use Rattle.extract.specs.Words.{Writable, Mesh}
 use Rattle.meshes.specs.FlatMesh.{vertexCount, Meshed}
 use Rattle.orientation.specs.Orientation.{orientedFaces}
-use Rattle.orientation.specs.Orienting.{oriented-length, oriented-meshed}
+use Rattle.orientation.specs.laws.Orienting.{oriented-length, oriented-meshed}
 use Rattle.trim.specs.Trim.{TrimRoom, trimmedVertices, trimmedFaces}
 use Rattle.scan.specs.Reconstruction.{gridFor, latticeFor, fieldFor, levelFor, wholeVertices, wholeFaces, vertexTotal, faceTotal, keptVertices, keptFaces}
-use Rattle.scan.specs.Stages.{MeshAsked}
-use Rattle.scan.specs.MeshRoom.{count-vertices, length-faces, extracted-meshed, few-vertices, few-faces}
+use Rattle.scan.specs.Words.{MeshAsked}
+use Rattle.scan.specs.laws.MeshRoom.{count-vertices, length-faces, extracted-meshed, few-vertices, few-faces}
 use Rattle.scan.proofs.PutTogether.{lattice-size}
 
 module _ {ps : List Point} {st : Settings} {g : Grid} {level : Float} {vs : List Float} {fs : List ℕ} {s0 a b c : List Float} {edges : List ℕ}

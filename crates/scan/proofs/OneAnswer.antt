@@ -1,7 +1,8 @@
 -- No second outcome fits: each public function, in the order of the source. Results and slices are said by equations, a mesh's V by three times it. Assumes
 -- nothing.
 use mathlib.Core.Path.{refl, sym}
-use Rattle.lists.specs.OneAnswer.{OneOutcome, same, _&_, by-thrice}
+use Rattle.lists.specs.OneOutcome.{OneOutcome}
+use Rattle.lists.specs.laws.OneAnswer.{same, _&_, by-thrice}
 use Rattle.meshes.proofs.OneAnswer.{by-counts}
 use Rattle.scan.proofs as fn
 

@@ -13,14 +13,14 @@ use Rattle.points.specs.Box.{boundsOf, extentOf, sideOf, originOf}
 use Rattle.search.specs.Spacing.{spacingOf}
 use Rattle.settings.specs.declared.Settings.{Settings}
 use Rattle.cells.specs.Extraction.{countX, countY, countZ}
-use Rattle.numbering.specs.FirstPass.{Counted}
+use Rattle.numbering.specs.Words.{Counted}
 use Rattle.meshes.specs.declared.MeshSize.{MeshSize}
 use Rattle.surface.specs.Surface.{levelOf}
 use Rattle.levels.specs.declared.Problem.{Problem}
 use Rattle.levels.specs.Levels.{solution}
 use Rattle.scan.specs.Reconstruction.{problemFor, gridFor, latticeFor, fieldFor, levelFor}
-use Rattle.scan.specs.Stages.{GridOver}
-use Rattle.scan.specs.FieldLength.{cubed}
+use Rattle.scan.specs.Words.{GridOver}
+use Rattle.scan.specs.laws.FieldLength.{cubed}
 
 -- ---- N
 

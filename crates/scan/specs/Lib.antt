@@ -1,7 +1,5 @@
 -- The whole call, and its stages: the definitions, what the stages ask and leave, then laws.
 pub mod Reconstruction
 pub mod FieldAlone
-pub mod Stages
-pub mod MeshRoom
-pub mod FieldLength
-pub mod NanOffset
+pub mod Words
+pub mod laws

@@ -8,7 +8,7 @@ ghost use Rattle.points.specs.Points.{usables};
 ghost use Rattle.points.specs.Box.{boundsOf};
 ghost use Rattle.settings.specs.Refusals.{_then_, usableVerdict, extentVerdict};
 ghost use Rattle.scan.specs.Reconstruction.{extentFor};
-ghost use Rattle.scan.specs.Stages.{GridOver, Lent, Solved, MeshAsked, MeshMade, trimmedAnswer};
+ghost use Rattle.scan.specs.Words.{GridOver, Lent, Solved, MeshAsked, MeshMade, trimmedAnswer};
 use grid::Grid;
 use levels::Problem;
 use meshes::MeshSize;

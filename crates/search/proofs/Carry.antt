@@ -1,4 +1,5 @@
--- Insertion in a slice: the part before k is in place and v goes into the rest of the first m, which is what `inserted` has left to do. By `take` and `set` at k. Assumes nothing.
+-- Insertion in a slice: the part before k is in place and v goes into the rest of the first m, which is what `inserted` has left to do. By `take` and
+-- `set` at k. Assumes nothing.
 use mathlib.Core.Path.{_≡_, refl, sym, ap, _∙_}
 use mathlib.Core.Bool.{true, false, cond}
 use mathlib.Core.List.{List, [], _∷_, _++_}

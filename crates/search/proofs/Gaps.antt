@@ -1,4 +1,5 @@
--- One usable point more gives at most one gap more, put in its place: the loop's turn (`gathered-used`), and the element of rank length/2 at the end. By lists with one element more. Assumes nothing.
+-- One usable point more gives at most one gap more, put in its place: the loop's turn (`gathered-used`), and the element of rank length/2 at the end. By
+-- lists with one element more. Assumes nothing.
 use mathlib.Core.Path.{_≡_, refl, sym, ap, _∙_}
 use mathlib.Core.Bool.{Bool, true, false, cond}
 use mathlib.Core.List.{List, [], _∷_, _++_, append-assoc, append-nil}
@@ -10,7 +11,7 @@ use lib.ListN.{length, getD, take, length-append}
 use lib.Seq.{getD-take}
 use lib.Ieee.{Float, nan, lt}
 use Rattle.lists.specs.Lists.{zero32}
-use Rattle.lists.specs.Fold.{fold-snoc}
+use Rattle.lists.specs.laws.Fold.{fold-snoc}
 use Rattle.lists.specs.EveryNth.{everyFrom}
 use Rattle.points.specs.declared.point.Point.{Point}
 use Rattle.search.specs.declared.neighbours.Gap.{Gap}
@@ -18,8 +19,8 @@ use Rattle.search.specs.declared.neighbours.Gap.the-variants.{Found, Not
 use Rattle.points.specs.Points.{given, pointAt, usableOf, usableTo, usables}
 use Rattle.search.specs.Search.{inserted, sorted}
 use Rattle.search.specs.Spacing.{gapAt, listed, gapsAmong, gapsBy, medianOf}
-use Rattle.search.specs.Inner.{putGap, sizeOf, gapBy}
-use Rattle.points.specs.UsableLoop.{used, skipped, usable-none}
+use Rattle.search.specs.Words.{putGap, sizeOf, gapBy}
+use Rattle.points.specs.laws.UsableLoop.{used, skipped, usable-none}
 
 -- ---- one point more
 

@@ -1,21 +1,21 @@
--- The two smallest distances are the roots of the two smallest squares, found with `<` alone: `nearest-root`. For the squares of one query are all NaN or none is,
--- since usable points are finite; where none is, the roots stand in the squares' order or are one value. Assumes nothing.
+-- The two smallest distances are the roots of the two smallest squares, found with `<` alone: `nearest-root`. For the squares of one query are all NaN or
+-- none is, since usable points are finite; where none is, the roots stand in the squares' order or are one value. Assumes nothing.
 use mathlib.Core.Path.{_≡_, refl, sym, ap, _∙_}
 use mathlib.Core.Logic.{_⊎_, inl, inr}
 use mathlib.Core.Bool.{Bool, true, false, cond, not, _&&_, _||_, true≢false, false≢true}
 use mathlib.Core.List.{List, [], _∷_, map, foldl}
 use lib.Ieee.{Float, nan, inf, fin, binary32, sub, lt, isNan}
 use Rattle.numbers.specs.Arithmetic.{rooted}
-use Rattle.numbers.specs.SumOfSquares.{mul-square, add-square, is-nan-mul, is-nan-add, is-nan-sub}
-use Rattle.numbers.specs.RootSquares.{HeldSquare, root-nan, roots-agree}
+use Rattle.numbers.specs.laws.SumOfSquares.{mul-square, add-square, is-nan-mul, is-nan-add, is-nan-sub}
+use Rattle.numbers.specs.laws.RootSquares.{HeldSquare, root-nan, roots-agree}
 use Rattle.lists.specs.Lists.{at}
 use Rattle.points.specs.declared.point.Point.{Point}
 use Rattle.search.specs.declared.brute.Least.{Least}
 use Rattle.search.specs.declared.brute.Least.the-variants.{Empty, One, Two}
 use Rattle.search.specs.Search.{squareOf, distanceOf, before, inserted, sorted, leastOf, nearestOf}
-use Rattle.search.specs.Inner.{leastWith, openTo, leastMap}
-use Rattle.points.specs.UsableFinite.{Finite, usable-finite, AllUsable}
-use Rattle.points.specs.SquaresHeld.{squares-held}
+use Rattle.search.specs.Words.{leastWith, openTo, leastMap}
+use Rattle.points.specs.laws.UsableFinite.{Finite, usable-finite, AllUsable}
+use Rattle.points.specs.laws.SquaresHeld.{squares-held}
 
 -- ---- what the loop holds: the first two of a list in order follow from the first two before
 

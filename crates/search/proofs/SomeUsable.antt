@@ -1,4 +1,5 @@
--- A loop that asks each given point whether it is usable and passes a test: it stops at the first that does, and else no usable point passes. By the place of the point in the list. Assumes nothing.
+-- A loop that asks each given point whether it is usable and passes a test: it stops at the first that does, and else no usable point passes. By the
+-- place of the point in the list. Assumes nothing.
 use mathlib.Core.Path.{_≡_, refl, sym, ap, _∙_}
 use mathlib.Core.Bool.{Bool, true, false, cond, _&&_, _||_, true≢false}
 use mathlib.Core.List.{List, [], _∷_, _++_}
@@ -6,7 +7,7 @@ use Prim.Native.Nat.{ℕ, zero, suc, _+_, _<_}
 use native.Mathlib.Nat.{not-suc-le-zero, le-of-suc-le-suc}
 use lib.Ieee.{Float}
 use Rattle.lists.specs.Lists.{tabulate}
-use Rattle.lists.specs.Tabulate.{tabulate-snoc}
+use Rattle.lists.specs.laws.Tabulate.{tabulate-snoc}
 use Rattle.points.specs.declared.point.Point.{Point}
 use Rattle.search.specs.Search.{anyOf}
 use Rattle.points.specs.Points.{given, pointAt, usableOf, usableAmong, usableTo, usables}

@@ -8,7 +8,7 @@ ghost use lib.Ieee as Ieee;
 ghost use Rattle.numbers.specs.Arithmetic.{rooted};
 ghost use Rattle.points.specs.Points.{usables, usableOf};
 ghost use Rattle.search.specs.Search.{squareOf, nearestOf, withinOf};
-ghost use Rattle.search.specs.Inner.{leastWith, openTo, leastMap};
+ghost use Rattle.search.specs.Words.{leastWith, openTo, leastMap};
 
 // The two smallest numbers of a list, or all if it has fewer.
 pub enum Least {

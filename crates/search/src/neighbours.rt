@@ -11,8 +11,8 @@ ghost use Rattle.lists.specs.Lists.{zeros32};
 ghost use Rattle.lists.specs.EveryNth.{strideFor};
 ghost use Rattle.points.specs.Points.{given, usables};
 ghost use Rattle.search.specs.Search.{inserted, sorted};
-ghost use Rattle.search.specs.Spacing.{firstPositive, gapAt, gapsBy, medianOf, spacingOf};
-ghost use Rattle.search.specs.Inner.{putGap, sizeOf, gapBy};
+ghost use Rattle.search.specs.Spacing.{firstPositive, gapsBy, medianOf, spacingOf};
+ghost use Rattle.search.specs.Words.{putGap, sizeOf, gapBy};
 
 // A distance, or none.
 pub enum Gap {
@@ -79,7 +79,8 @@ fn keep(list: &mut [f32], m: usize, g: Gap) -> usize
 // The same with the gap of usable point number `seen`, if it is one of 0, s, 2s..
 fn pick(points: &[f32], list: &mut [f32], s: usize, m: usize, seen: usize, p: Point) -> usize
     requires { ⌜ (0 < s) × (m < length (now list)) ⌝ }
-    ensures { λ r. ⌜ (r ≡ m + sizeOf (gapBy s seen (usables (now (points .entry))) p)) × (take r (now (list .exit)) ≡ putGap (take m (now (list .entry))) (gapBy s seen (usables (now (points .entry))) p)) ⌝ }
+    ensures { λ r. ⌜ (r ≡ m + sizeOf (gapBy s seen (usables (now (points .entry))) p))
+        × (take r (now (list .exit)) ≡ putGap (take m (now (list .entry))) (gapBy s seen (usables (now (points .entry))) p)) ⌝ }
 {
     if seen % s == 0 {
         let at = p.at;
@@ -91,7 +92,9 @@ fn pick(points: &[f32], list: &mut [f32], s: usize, m: usize, seen: usize, p: Po
 // The gaps of the usable points 0, s, 2s.., ascending at the front of the list. How many there are.
 fn gaps(points: &[f32], list: &mut [f32], s: usize) -> usize
     requires { ⌜ (0 < s) × (given (now points) ≤ length (now list)) ⌝ }
-    ensures { λ r. ⌜ (r ≡ length (gapsBy s (usables (now (points .entry))) (usables (now (points .entry))))) × (r ≤ given (now (points .entry))) × (take r (now (list .exit)) ≡ sorted Ieee.lt (gapsBy s (usables (now (points .entry))) (usables (now (points .entry))))) ⌝ }
+    ensures { λ r. ⌜ (r ≡ length (gapsBy s (usables (now (points .entry))) (usables (now (points .entry)))))
+        × (r ≤ given (now (points .entry)))
+        × (take r (now (list .exit)) ≡ sorted Ieee.lt (gapsBy s (usables (now (points .entry))) (usables (now (points .entry))))) ⌝ }
 {
     let all = Point::given(points);
     let mut m = 0usize;
@@ -128,7 +131,8 @@ fn median(points: &[f32], list: &mut [f32], s: usize) -> f32
     0.0
 }
 
-// The spacing of the usable points, whose largest extent is given. The list, one number for each given point, holds the distances on the way and zeros at the end.
+// The spacing of the usable points, whose largest extent is given. The list, one number for each given point, holds the distances on the way and zeros at
+// the end.
 pub fn spacing(points: &[f32], list: &mut [f32], extent: f64) -> f64
     requires { ⌜ given (now points) ≤ length (now list) ⌝ }
     ensures { λ r. ⌜ (r ≡ spacingOf (usables (now (points .entry))) extent) × (now (list .exit) ≡ zeros32 (length (now (list .entry)))) ⌝ }

@@ -1,6 +1,5 @@
 -- Document 01, "Numbers of refusal": the number of each verdict, and the answer's values under each. Definitions only; assumes nothing.
 use mathlib.Core.Bool.{Bool, cond}
-use mathlib.Core.List.{[], _∷_}
 use Prim.Native.Nat.{ℕ}
 use lib.Dec.{eqb}
 use Rattle.lists.specs.Lists.{zeros32, zero32}

@@ -2,5 +2,4 @@
 pub mod Settings
 pub mod Answers
 pub mod Refusals
-pub mod BothSides
-pub mod Passed
+pub mod laws

@@ -2,7 +2,8 @@
 ghost use mathlib.Core.Path.{_≡_};
 ghost use Prim.Native.Nat.{_*_, _^_, _<_, _≤_};
 ghost use Rattle.points.specs.Points.{given};
-ghost use Rattle.settings.specs.Refusals.{pointSliceVerdict, noPointsVerdict, depthVerdict, smoothingVerdict, anyShort, scratchVerdict, usableVerdict, extentVerdict, vertexRoomVerdict, faceRoomVerdict, roomVerdict, meshVerdict, earlyVerdict};
+ghost use Rattle.settings.specs.Refusals.{pointSliceVerdict, noPointsVerdict, depthVerdict, smoothingVerdict, anyShort, scratchVerdict};
+ghost use Rattle.settings.specs.Refusals.{usableVerdict, extentVerdict, roomVerdict, meshVerdict, earlyVerdict};
 use crate::Lengths;
 use crate::Settings;
 use crate::Verdict;

@@ -1,20 +1,20 @@
--- A run whose alpha is NaN: the step makes every element of x, r and p NaN, and rr too (`nan-next`). That state does not stop and is its own next state, so any number of
--- steps from there leaves it (`nan-steps`). Assumes nothing.
+-- A run whose alpha is NaN: the step makes every element of x, r and p NaN, and rr too (`nan-next`). That state does not stop and is its own next state,
+-- so any number of steps from there leaves it (`nan-steps`). Assumes nothing.
 use mathlib.Core.Path.{_≡_, refl, ap, _∙_}
 use mathlib.Core.Bool.{Bool, false, _||_}
 use mathlib.Core.List.{List}
 use Prim.Native.Nat.{ℕ, zero, suc, _<_}
 use lib.Ieee.{Float, nan, binary32, binary64, div, le}
 use Rattle.lists.specs.Lists.{tabulate, at}
-use Rattle.lists.specs.Tabulate.{at-tabulate, tabulate-ext}
+use Rattle.lists.specs.laws.Tabulate.{at-tabulate, tabulate-ext}
 use Rattle.numbers.specs.Arithmetic.{narrowed}
 use Rattle.grid.specs.declared.Grid.{Grid}
 use Rattle.grid.specs.Grid.{allNodes}
 use Rattle.laplacian.specs.Laplacian.{applied}
 use Rattle.numbers.specs.Constants.{zero64}
 use Rattle.vectors.specs.Vectors.{dotted, plusAt, minusAt}
-use Rattle.numbers.specs.NanThrough.{add-nan, sub-nan, nan-mul, nan-div, nan-narrowed, nan-rooted, nan-le}
-use Rattle.vectors.specs.Dotted.{dotted-nan}
+use Rattle.numbers.specs.laws.NanThrough.{add-nan, sub-nan, nan-mul, nan-div, nan-narrowed, nan-rooted, nan-le}
+use Rattle.vectors.specs.laws.Dotted.{dotted-nan}
 use Rattle.solver.specs.Solver.{State, papOf, stops, alphaOf, next, steps}
 
 abbrev nans : (g : Grid) → List Float

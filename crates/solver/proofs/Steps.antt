@@ -1,5 +1,5 @@
--- The turns of the loop are the steps of the definition: what a turn's parts say, put together as a stop, a step or the end of a NaN run; the steps that are left; the whole.
--- Assumes nothing.
+-- The turns of the loop are the steps of the definition: what a turn's parts say, put together as a stop, a step or the end of a NaN run; the steps that
+-- are left; the whole. Assumes nothing.
 use mathlib.Core.Path.{_≡_, sym, ap, _∙_}
 use mathlib.Core.Bool.{Bool, true, false, _||_, cond}
 use mathlib.Core.List.{List}
@@ -15,7 +15,7 @@ use Rattle.laplacian.specs.Laplacian.{applied}
 use Rattle.numbers.specs.Constants.{zero64}
 use Rattle.vectors.specs.Vectors.{dotted, plusAt, minusAt, lessAt}
 use Rattle.solver.specs.Solver.{State, started, papOf, stops, alphaOf, next, steps, normOf, conjugate}
-use Rattle.solver.specs.Inner.{Updated}
+use Rattle.solver.specs.Words.{Updated}
 use Rattle.solver.proofs.NanRun.{nan-next, nan-steps}
 
 -- ---- that there is a node

@@ -1,5 +1,5 @@
 -- Document 01's Solver up to one level: the definitions, then what is proved of them.
 pub mod Solver
-pub mod Inner
+pub mod Words
 pub mod Boundary
-pub mod BoundaryAlike
+pub mod laws

@@ -1,5 +1,6 @@
--- Document 01, "Solver", in its order, for one level: conjugate gradients with their two stops and their cap. A x is in Laplacian of the crate `laplacian`, the dot product and
--- the sums over all nodes in Vectors of the crate `vectors`, the levels in Levels of the crate `levels`. Definitions only; assumes nothing.
+-- Document 01, "Solver", in its order, for one level: conjugate gradients with their two stops and their cap. A x is in Laplacian of the crate
+-- `laplacian`, the dot product and the sums over all nodes in Vectors of the crate `vectors`, the levels in Levels of the crate `levels`. Definitions
+-- only; assumes nothing.
 use mathlib.Core.Bool.{Bool, _||_, cond}
 use mathlib.Core.List.{List}
 use Prim.Native.Nat.{ℕ, zero, suc}

@@ -4,8 +4,8 @@ ghost use lib.ListN.{length};
 ghost use denote.Ref.{now};
 ghost use Rattle.grid.specs.Grid.{allNodes};
 ghost use Rattle.solver.specs.Solver.{started, steps, conjugate};
-ghost use Rattle.vectors.specs.Slices.{NodeSlices};
-ghost use Rattle.solver.specs.Inner.{SolutionLeft, Updated, Turned};
+ghost use Rattle.vectors.specs.Words.{NodeSlices};
+ghost use Rattle.solver.specs.Words.{SolutionLeft, Updated, Turned};
 use grid::Grid;
 use laplacian::apply;
 use vectors::advance;
@@ -32,7 +32,8 @@ fn update(
     rr: f64,
 ) -> f64
     requires { ⌜ NodeSlices g (now x) (now r) (now p) (now ap) ⌝ }
-    ensures { λ t. ⌜ Updated g alpha rr (now (x .entry)) (now (r .entry)) (now (p .entry)) (now (ap .entry)) (now (x .exit)) (now (r .exit)) (now (p .exit)) t ⌝ }
+    ensures { λ t. ⌜ Updated g alpha rr (now (x .entry)) (now (r .entry)) (now (p .entry)) (now (ap .entry)) (now (x .exit)) (now (r .exit)) (now (p .exit))
+        t ⌝ }
 {
     let rr_new = advance(g, x, r, p, ap, alpha);
     let beta = arith::narrow(rr_new / rr);
@@ -40,8 +41,8 @@ fn update(
     rr_new
 }
 
-// One turn. A NaN stops neither test. But where alpha is NaN, the update makes x, r and p NaN at all nodes, and no later turn changes anything: so the loop may be left then,
-// and not before.
+// One turn. A NaN stops neither test. But where alpha is NaN, the update makes x, r and p NaN at all nodes, and no later turn changes anything: so the
+// loop may be left then, and not before.
 fn one_turn(
     g: Grid,
     x: &mut [f32],
@@ -52,7 +53,8 @@ fn one_turn(
     limit: f64,
 ) -> Turn
     requires { ⌜ NodeSlices g (now x) (now r) (now p) (now ap) ⌝ }
-    ensures { λ t. ⌜ Turned g limit (record { x = now (x .entry); r = now (r .entry); p = now (p .entry); rr = rr }) t (now (x .exit)) (now (r .exit)) (now (p .exit)) ⌝ }
+    ensures { λ t. ⌜ Turned g limit (record { x = now (x .entry); r = now (r .entry); p = now (p .entry); rr = rr }) t (now (x .exit)) (now (r .exit))
+        (now (p .exit)) ⌝ }
 {
     if arith::root64(rr) <= limit {
         return Turn::Done;
@@ -148,7 +150,8 @@ pub fn conjugate_gradient(
 )
     requires { ⌜ NodeSlices g (now x) (now r) (now p) (now ap) ⌝ }
     requires { ⌜ length (now b) ≡ allNodes g ⌝ }
-    ensures { λ _. ⌜ SolutionLeft g (conjugate g tolerance cap (now (b .entry)) (now (x .entry))) (now (x .exit)) (now (r .exit)) (now (p .exit)) (now (ap .exit)) ⌝ }
+    ensures { λ _. ⌜ SolutionLeft g (conjugate g tolerance cap (now (b .entry)) (now (x .entry))) (now (x .exit)) (now (r .exit)) (now (p .exit))
+        (now (ap .exit)) ⌝ }
 {
     descend(g, b, x, r, p, ap, tolerance, cap);
     lists::clear_f32(r);

@@ -1,2 +1,2 @@
 -- A word of this crate's contracts.
-pub mod Side
+pub mod Words

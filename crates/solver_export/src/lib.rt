@@ -1,5 +1,5 @@
-// Functions of `blur`, `laplacian`, `solver` and `levels` for C and Rust to call, so that they can be tested and timed on any processor. Each is that of its crate, and its contract
-// too. The caller keeps what a `requires` asks: lengths that fit. Nothing checks it at the boundary.
+// Functions of `blur`, `laplacian`, `solver` and `levels` for C and Rust to call, so that they can be tested and timed on any processor. Each is that of
+// its crate, and its contract too. The caller keeps what a `requires` asks: lengths that fit. Nothing checks it at the boundary.
 ghost use mathlib.Core.Path.{_≡_};
 ghost use mathlib.Core.List.{[], _∷_};
 ghost use Prim.Native.Nat.{_*_, _≤_};
@@ -10,10 +10,10 @@ ghost use Rattle.points.specs.Points.{usables};
 ghost use Rattle.blur.specs.Blur.{offsetCount, blurredAlong};
 ghost use Rattle.laplacian.specs.Laplacian.{applyAt};
 ghost use Rattle.solver.specs.Solver.{conjugate};
-ghost use Rattle.solver.specs.Inner as level;
+ghost use Rattle.solver.specs.Words as level;
 ghost use Rattle.levels.specs.Levels.{nodesAt, solution};
-ghost use Rattle.levels.specs.Slices.{LevelSlices, LevelsLeft};
-ghost use Rattle.solver_export.specs.Side.{gridOfSide};
+ghost use Rattle.levels.specs.Words.{LevelSlices, LevelsLeft};
+ghost use Rattle.solver_export.specs.Words.{gridOfSide};
 use grid::Grid;
 use levels::Problem;
 
@@ -68,8 +68,13 @@ pub extern "C" fn hoardmagpie_conjugate_gradient(
     cap: usize,
 )
     requires { ⌜ Sides nodes ⌝ }
-    requires { ⌜ (length (now b) ≡ nodes * nodes * nodes) × (length (now x) ≡ nodes * nodes * nodes) × (length (now r) ≡ nodes * nodes * nodes) × (length (now p) ≡ nodes * nodes * nodes) × (length (now ap) ≡ nodes * nodes * nodes) ⌝ }
-    ensures { λ _. ⌜ level.SolutionLeft (gridOfSide nodes) (conjugate (gridOfSide nodes) tolerance cap (now (b .entry)) (now (x .entry))) (now (x .exit)) (now (r .exit)) (now (p .exit)) (now (ap .exit)) ⌝ }
+    requires { ⌜ (length (now b) ≡ nodes * nodes * nodes)
+        × (length (now x) ≡ nodes * nodes * nodes)
+        × (length (now r) ≡ nodes * nodes * nodes)
+        × (length (now p) ≡ nodes * nodes * nodes)
+        × (length (now ap) ≡ nodes * nodes * nodes) ⌝ }
+    ensures { λ _. ⌜ level.SolutionLeft (gridOfSide nodes) (conjugate (gridOfSide nodes) tolerance cap (now (b .entry)) (now (x .entry))) (now (x .exit))
+        (now (r .exit)) (now (p .exit)) (now (ap .exit)) ⌝ }
 {
     let g = Grid {
         nodes,
@@ -103,7 +108,11 @@ pub extern "C" fn hoardmagpie_solve(
     requires { ⌜ (1 ≤ depth) × (depth ≤ 8) ⌝ }
     requires { ⌜ LevelSlices (nodesAt depth) (now x) (now b) (now s) (now r) (now p) (now ap) ⌝ }
     requires { ⌜ length (now before) ≡ nodesAt depth ⌝ }
-    ensures { λ _. ⌜ LevelsLeft (nodesAt depth) (solution (record { origin = i ∷ j ∷ k ∷ []; size = size; spacing = spacing; smoothing = smoothing; cap = cap; tolerance = tolerance }) (usables (now (points .entry))) depth) (now (x .exit)) (now (before .exit)) (now (b .exit)) (now (s .exit)) (now (r .exit)) (now (p .exit)) (now (ap .exit)) ⌝ }
+    ensures { λ _. ⌜ LevelsLeft (nodesAt depth)
+        (solution
+        (record { origin = i ∷ j ∷ k ∷ []; size = size; spacing = spacing; smoothing = smoothing; cap = cap; tolerance = tolerance })
+        (usables (now (points .entry))) depth)
+        (now (x .exit)) (now (before .exit)) (now (b .exit)) (now (s .exit)) (now (r .exit)) (now (p .exit)) (now (ap .exit)) ⌝ }
 {
     let problem = Problem {
         origin: [i, j, k],

@@ -1,6 +1,6 @@
 // The level: the surface goes through the points on the average.
 ghost use mathlib.Core.Path.{_≡_};
-ghost use Prim.Native.Nat.{_*_, _≤_};
+ghost use Prim.Native.Nat.{_≤_};
 ghost use lib.ListN.{length};
 ghost use Rattle.grid.specs.Grid.{Sides, allNodes};
 ghost use Rattle.points.specs.Points.{given, usables};

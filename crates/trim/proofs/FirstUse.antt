@@ -1,5 +1,5 @@
--- Renumbering at first use: before face t the table holds the places of the vertices that the first t faces use, and those faces are over the new numbers (`Numbering`). What is noted keeps
--- its place, so a number that is written early is right at the end. Assumes nothing.
+-- Renumbering at first use: before face t the table holds the places of the vertices that the first t faces use, and those faces are over the new numbers
+-- (`Numbering`). What is noted keeps its place, so a number that is written early is right at the end. Assumes nothing.
 use mathlib.Core.Path.{_≡_, refl, sym, ap, _∙_, subst}
 use mathlib.Core.Logic.{_≢_}
 use mathlib.Core.Bool.{Bool, true, false, _||_}
@@ -11,17 +11,17 @@ use native.Mathlib.Omega.{arith}
 use lib.ListN.{length, getD, set, take, drop, length-map, length-set, getD-replicate, take-append-drop}
 use lib.Seq.{take-suc, take-take, length-take-le, getD-take, getD-set-same, getD-set-other, ext-getD}
 use Rattle.lists.specs.Lists.{zerosU}
-use Rattle.lists.specs.Fill.{fill-below}
+use Rattle.lists.specs.laws.Fill.{fill-below}
 use Rattle.closed.specs.Lists.{member, In}
 use Rattle.closed.specs.Faces.{Face, faces, faceOf, corners}
 use Rattle.closed.specs.Numbering.{note, grow, dedup, indexOf, used, renumber, mesh, slot}
-use Rattle.closed.specs.Counting.{at-map}
-use Rattle.closed.specs.Mesh.{face-cong}
-use Rattle.closed.specs.Renumber.{in-head, in-tail, note-old, member-grow, dedup-append, indexOf-grow, slot-in, slot-nil, in-of-slot, out-of-slot, slot-note-new, slot-note-other, length-note-new}
-use Rattle.closed.specs.Turning.{corners-append, length-faces}
+use Rattle.closed.specs.laws.Counting.{at-map}
+use Rattle.closed.specs.laws.Mesh.{face-cong}
+use Rattle.closed.specs.laws.Renumber.{in-head, in-tail, note-old, member-grow, dedup-append, indexOf-grow, slot-in, slot-nil, in-of-slot, out-of-slot, slot-note-new, slot-note-other, length-note-new}
+use Rattle.closed.specs.laws.Turning.{corners-append, length-faces}
 use Rattle.meshes.specs.FlatMesh.{faceCount, cornersAt, putFace, Corners}
-use Rattle.meshes.specs.FlatFaces.{noFace, face-read, FacesFilled, faces-none, faces-now, faces-more}
-use Rattle.trim.specs.Passes.{Slots, Noted, Renumbered}
+use Rattle.meshes.specs.laws.FlatFaces.{noFace, face-read, FacesFilled, faces-none, faces-now, faces-more}
+use Rattle.trim.specs.Words.{Slots, Noted, Renumbered}
 
 -- ---- the table
 

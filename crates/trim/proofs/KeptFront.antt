@@ -1,5 +1,5 @@
--- The faces that pass a test, moved forward in place: before face t the front holds those of the first t faces, and from face t on all is as it came (`Kept`). A face is written no
--- further on than it is read. Assumes nothing.
+-- The faces that pass a test, moved forward in place: before face t the front holds those of the first t faces, and from face t on all is as it came
+-- (`Kept`). A face is written no further on than it is read. Assumes nothing.
 use mathlib.Core.Path.{_≡_, refl, sym, ap, _∙_}
 use mathlib.Core.Bool.{Bool, true, false, cond}
 use mathlib.Core.List.{List, [], _∷_, _++_, append-nil}
@@ -10,10 +10,10 @@ use lib.ListN.{length, getD, set, take, length-append}
 use lib.Seq.{take-suc, take-all, take-suc-set, getD-set-other}
 use Rattle.closed.specs.Lists.{keep}
 use Rattle.closed.specs.Faces.{Face, faces, faceOf}
-use Rattle.closed.specs.Counting.{keep-append}
-use Rattle.closed.specs.Turning.{length-faces}
+use Rattle.closed.specs.laws.Counting.{keep-append}
+use Rattle.closed.specs.laws.Turning.{length-faces}
 use Rattle.meshes.specs.FlatMesh.{faceCount, cornersAt, putFace}
-use Rattle.meshes.specs.FlatFaces.{noFace, face-read, face-put, length-put}
+use Rattle.meshes.specs.laws.FlatFaces.{noFace, face-read, face-put, length-put}
 
 -- ---- one element more
 

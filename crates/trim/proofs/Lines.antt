@@ -1,4 +1,5 @@
--- Three lists taken as one: what stands at a place of the one stands in the first, the second or the third, and so for what is stored. d is what is read past a list's end. Assumes nothing.
+-- Three lists taken as one: what stands at a place of the one stands in the first, the second or the third, and so for what is stored. d is what is read
+-- past a list's end. Assumes nothing.
 use mathlib.Core.Path.{_≡_, sym, ap, _∙_}
 use mathlib.Core.List.{List, [], _∷_, _++_}
 use Prim.Native.Nat.{ℕ, _+_, _-_, _*_, _≤_, _<_}
@@ -7,7 +8,7 @@ use native.Mathlib.Omega.{arith}
 use lib.ListN.{length, getD, set, length-append, List·getD-append}
 use lib.Seq.{set-append-left, getD-append-add}
 use lib.Ieee.{Float, nan}
-use Rattle.trim.specs.Passes.{lines, Even}
+use Rattle.trim.specs.Words.{lines, Even}
 
 set-append-add : {A : Type 0} (xs ys : List A) (k : ℕ) (x : A) → set (xs ++ ys) (length xs + k) x ≡ xs ++ set ys k x
 set-append-add [] ys k x = ap (λ (n : ℕ). set ys n x) (zero-add k)

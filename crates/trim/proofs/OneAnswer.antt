@@ -1,7 +1,8 @@
 -- No second outcome fits: the public function that is seen outside the crate; `keep_faces`, `number` and `move_vertices` are called for it alone.
 -- V is told by 3V. Assumes nothing.
 use mathlib.Core.Path.{refl}
-use Rattle.lists.specs.OneAnswer.{OneOutcome, same, _&_, by-thrice}
+use Rattle.lists.specs.OneOutcome.{OneOutcome}
+use Rattle.lists.specs.laws.OneAnswer.{same, _&_, by-thrice}
 use Rattle.meshes.proofs.OneAnswer.{by-counts}
 use Rattle.trim.proofs as fn
 

@@ -1,5 +1,5 @@
--- One axis moved: the new vertex w has the coordinate of the w-th vertex that is used, and the other axes stay. The places in the table are one to one, so what was carried to one of them is not
--- overwritten. By induction on the vertices passed. Assumes nothing.
+-- One axis moved: the new vertex w has the coordinate of the w-th vertex that is used, and the other axes stay. The places in the table are one to one,
+-- so what was carried to one of them is not overwritten. By induction on the vertices passed. Assumes nothing.
 use mathlib.Core.Path.{_≡_, refl, sym, ap, _∙_, subst}
 use mathlib.Core.Logic.{_≢_, ⊎-elim}
 use mathlib.Core.List.{List}
@@ -11,9 +11,9 @@ use lib.Seq.{getD-set-same, getD-set-other}
 use lib.Ieee.{Float, nan}
 use Rattle.lists.specs.Lists.{at}
 use Rattle.closed.specs.Numbering.{indexOf, slot, NoRepeat}
-use Rattle.closed.specs.Renumber.{in-or-not, in-at, at-indexOf, indexOf-at, slot-in, slot-out}
+use Rattle.closed.specs.laws.Renumber.{in-or-not, in-at, at-indexOf, indexOf-at, slot-in, slot-out}
 use Rattle.meshes.specs.FlatMesh.{vertexCount, coordinate}
-use Rattle.trim.specs.Passes.{Slots, carried, gathered, scattered}
+use Rattle.trim.specs.Words.{Slots, carried, gathered, scattered}
 
 -- ---- carried
 

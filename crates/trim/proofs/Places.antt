@@ -1,4 +1,5 @@
--- The three axes moved, the front of the vertices is the places of the used ones; the front of the faces is the mesh; and there are no more of either than before. Assumes nothing.
+-- The three axes moved, the front of the vertices is the places of the used ones; the front of the faces is the mesh; and there are no more of either
+-- than before. Assumes nothing.
 use mathlib.Core.Path.{_≡_, refl, sym, ap, _∙_, subst}
 use mathlib.Core.Bool.{Bool}
 use mathlib.Core.List.{List, [], _∷_}
@@ -11,16 +12,16 @@ use Rattle.lists.specs.Lists.{at}
 use Rattle.closed.specs.Lists.{bit, member, In, keep}
 use Rattle.closed.specs.Faces.{Face, faces, corners}
 use Rattle.closed.specs.Numbering.{used, indexOf, NoRepeat}
-use Rattle.closed.specs.Sums.{sum-le, sum-const}
-use Rattle.closed.specs.Counting.{bit-le}
-use Rattle.closed.specs.Renumber.{in-at, in-all, at-indexOf, indexOf-lt}
-use Rattle.closed.specs.Mesh.{in-keep, used-member, used-no-repeat}
-use Rattle.closed.specs.Vertices.{length-members}
-use Rattle.closed.specs.Turning.{corners-append, corners-faces, length-corners, length-faces}
+use Rattle.closed.specs.laws.Sums.{sum-le, sum-const}
+use Rattle.closed.specs.laws.Counting.{bit-le}
+use Rattle.closed.specs.laws.Renumber.{in-at, in-all, at-indexOf, indexOf-lt}
+use Rattle.closed.specs.laws.Mesh.{in-keep, used-member, used-no-repeat}
+use Rattle.closed.specs.laws.Vertices.{length-members}
+use Rattle.closed.specs.laws.Turning.{corners-append, corners-faces, length-corners, length-faces}
 use Rattle.meshes.specs.FlatMesh.{vertexCount, faceCount, coordinate, Meshed}
 use Rattle.trim.specs.Trim.{placesOf}
-use Rattle.trim.specs.TrimmedMesh.{length-places}
-use Rattle.trim.specs.Passes.{Slots, gathered, scattered}
+use Rattle.trim.specs.laws.TrimmedMesh.{length-places}
+use Rattle.trim.specs.Words.{Slots, gathered, scattered}
 use Rattle.trim.proofs.OneAxis.{Moved, moved}
 
 -- ---- the coordinates

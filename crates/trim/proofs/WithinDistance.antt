@@ -1,5 +1,5 @@
--- The passes together are the trim within a distance: the front of the faces is the mesh of the kept faces, the front of the vertices is the places of those that they use, and zeros stand
--- past both. Assumes nothing.
+-- The passes together are the trim within a distance: the front of the faces is the mesh of the kept faces, the front of the vertices is the places of
+-- those that they use, and zeros stand past both. Assumes nothing.
 use mathlib.Core.Path.{_≡_, sym, ap, _∙_}
 use mathlib.Core.Logic.{⊎-elim}
 use mathlib.Core.List.{List, [], _∷_, _++_, append-nil}
@@ -8,19 +8,19 @@ use native.Mathlib.Omega.{arith}
 use lib.ListN.{length, getD, take, replicate, length-take}
 use lib.Ieee.{Float, binary32, mul}
 use Rattle.lists.specs.Lists.{zero32, zeros32, zerosU, padded}
-use Rattle.lists.specs.Padded.{cleared-padded}
+use Rattle.lists.specs.laws.Padded.{cleared-padded}
 use Rattle.closed.specs.Faces.{Face, faces, corners}
 use Rattle.closed.specs.Numbering.{note, grow, dedup, used, mesh, slot}
-use Rattle.closed.specs.Renumber.{in-or-not, in-at, indexOf-lt, note-old, length-note-new, slot-in, slot-out}
-use Rattle.closed.specs.Mesh.{mesh-length}
-use Rattle.closed.specs.Turning.{length-corners, length-faces, corners-faces}
+use Rattle.closed.specs.laws.Renumber.{in-or-not, in-at, indexOf-lt, note-old, length-note-new, slot-in, slot-out}
+use Rattle.closed.specs.laws.Mesh.{mesh-length}
+use Rattle.closed.specs.laws.Turning.{length-corners, length-faces, corners-faces}
 use Rattle.points.specs.declared.point.Point.{Point}
 use Rattle.meshes.specs.FlatMesh.{vertexCount, faceCount, Meshed}
 use Rattle.settings.specs.declared.Trimming.the-variants.{Off, Within}
 use Rattle.meshes.specs.declared.MeshSize.{MeshSize}
 use Rattle.trim.specs.Trim.{near, nearFaces, placesOf, trimmedFaces, trimmedVertices, Trimmed}
-use Rattle.trim.specs.Passes.{Slots, Front}
-use Rattle.trim.specs.TrimmedMesh.{length-places}
+use Rattle.trim.specs.Words.{Slots, Front}
+use Rattle.trim.specs.laws.TrimmedMesh.{length-places}
 use Rattle.trim.proofs.Places.{front-corners, used-below, used-few}
 
 slot-le : (seen : List ℕ) (v : ℕ) → slot seen v ≤ length seen

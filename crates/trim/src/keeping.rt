@@ -22,7 +22,8 @@ fn is_near(points: &[f32], limit: f32, vertices: &[f32], face: [u32; 3]) -> bool
 pub fn keep_faces(points: &[f32], limit: f32, vertices: &[f32], faces: &mut [u32]) -> usize
     requires { ⌜ Meshed (now vertices) (now faces) ⌝ }
     ensures { λ r. ⌜ r ≡ length (keep (near (usables (now (points .entry))) (now (vertices .entry)) limit) (Flat.faces (now (faces .entry)))) ⌝ }
-    ensures { λ r. ⌜ take r (Flat.faces (now (faces .exit))) ≡ keep (near (usables (now (points .entry))) (now (vertices .entry)) limit) (Flat.faces (now (faces .entry))) ⌝ }
+    ensures { λ r. ⌜ take r (Flat.faces (now (faces .exit))) ≡ keep (near (usables (now (points .entry))) (now (vertices .entry)) limit)
+        (Flat.faces (now (faces .entry))) ⌝ }
 {
     let count = faces.len() / 3;
     let mut kept = 0usize;

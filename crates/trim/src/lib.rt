@@ -1,6 +1,6 @@
-// Document 01, "Box, level, orientation, trim": the trim, after the turning. Beside `trim` of the Rust's poisson.rs, which makes new vectors; here the faces are moved
-// forward where they stand (`keeping`), a lent table over the old vertices numbers them at first use (`renumbering`), and the coordinates move one axis at a time through three
-// lent slices taken as one (`moving`).
+// Document 01, "Box, level, orientation, trim": the trim, after the turning. Beside `trim` of the Rust's poisson.rs, which makes new vectors; here the
+// faces are moved forward where they stand (`keeping`), a lent table over the old vertices numbers them at first use (`renumbering`), and the coordinates
+// move one axis at a time through three lent slices taken as one (`moving`).
 mod keeping;
 mod moving;
 mod renumbering;
@@ -14,7 +14,7 @@ ghost use Rattle.points.specs.Points.{usables};
 ghost use Rattle.meshes.specs.FlatMesh.{vertexCount, Meshed};
 ghost use Rattle.settings.specs.declared.Trimming.the-variants.{Within};
 ghost use Rattle.trim.specs.Trim.{nearFaces, Trimmed, TrimRoom};
-ghost use Rattle.trim.specs.Passes.{Front};
+ghost use Rattle.trim.specs.Words.{Front};
 use meshes::MeshSize;
 use settings::Trimming;
 
@@ -28,7 +28,8 @@ fn keep_near(
 ) -> MeshSize
     requires { ⌜ Meshed (now vertices) (now faces) ⌝ }
     requires { ⌜ (length (now faces) < 2 ^ 32) × (vertexCount (now vertices) ≤ length (now table)) ⌝ }
-    ensures { λ r. ⌜ Front (nearFaces (usables (now (points .entry))) (now (vertices .entry)) distance (Flat.faces (now (faces .entry)))) (now (faces .exit)) (now (table .exit)) r ⌝ }
+    ensures { λ r. ⌜ Front (nearFaces (usables (now (points .entry))) (now (vertices .entry)) distance (Flat.faces (now (faces .entry))))
+        (now (faces .exit)) (now (table .exit)) r ⌝ }
 {
     let kept = keeping::keep_faces(points, distance * distance, vertices, faces);
     lists::clear_u32(table);
@@ -52,7 +53,8 @@ fn trim_within(
 ) -> MeshSize
     requires { ⌜ Meshed (now vertices) (now faces) ⌝ }
     requires { ⌜ TrimRoom (now vertices) (now faces) (now table) (now a) (now b) (now c) ⌝ }
-    ensures { λ r. ⌜ Trimmed (Within distance) (usables (now (points .entry))) (now (vertices .entry)) (now (faces .entry)) r (now (vertices .exit)) (now (faces .exit)) ⌝ }
+    ensures { λ r. ⌜ Trimmed (Within distance) (usables (now (points .entry))) (now (vertices .entry)) (now (faces .entry)) r (now (vertices .exit))
+        (now (faces .exit)) ⌝ }
 {
     let size = keep_near(distance, points, vertices, faces, table);
     let used = size.vertices;
@@ -76,7 +78,8 @@ fn trim_as_chosen(
 ) -> MeshSize
     requires { ⌜ Meshed (now vertices) (now faces) ⌝ }
     requires { ⌜ TrimRoom (now vertices) (now faces) (now table) (now a) (now b) (now c) ⌝ }
-    ensures { λ r. ⌜ Trimmed trimming (usables (now (points .entry))) (now (vertices .entry)) (now (faces .entry)) r (now (vertices .exit)) (now (faces .exit)) ⌝ }
+    ensures { λ r. ⌜ Trimmed trimming (usables (now (points .entry))) (now (vertices .entry)) (now (faces .entry)) r (now (vertices .exit))
+        (now (faces .exit)) ⌝ }
 {
     match trimming {
         Trimming::Off => MeshSize {
@@ -102,7 +105,8 @@ pub fn trim(
 ) -> MeshSize
     requires { ⌜ Meshed (now vertices) (now faces) ⌝ }
     requires { ⌜ TrimRoom (now vertices) (now faces) (now table) (now a) (now b) (now c) ⌝ }
-    ensures { λ r. ⌜ Trimmed trimming (usables (now (points .entry))) (now (vertices .entry)) (now (faces .entry)) r (now (vertices .exit)) (now (faces .exit)) ⌝ }
+    ensures { λ r. ⌜ Trimmed trimming (usables (now (points .entry))) (now (vertices .entry)) (now (faces .entry)) r (now (vertices .exit))
+        (now (faces .exit)) ⌝ }
     ensures { λ _. ⌜ now (table .exit) ≡ zerosU (length (now (table .entry))) ⌝ }
     ensures { λ _. ⌜ now (a .exit) ≡ zeros32 (length (now (a .entry))) ⌝ }
     ensures { λ _. ⌜ now (b .exit) ≡ zeros32 (length (now (b .entry))) ⌝ }

@@ -7,7 +7,7 @@ ghost use Rattle.lists.specs.Lists.{at};
 ghost use Rattle.meshes.specs.FlatMesh.{vertexCount};
 ghost use Rattle.closed.specs.Numbering.{NoRepeat};
 ghost use Rattle.trim.specs.Trim.{placesOf};
-ghost use Rattle.trim.specs.Passes.{Slots, lines, Even, carried, gathered, scattered, Lists};
+ghost use Rattle.trim.specs.Words.{Slots, lines, Even, carried, gathered, scattered, Lists};
 use grid::Vertex;
 
 // Stores a coordinate of a vertex at its place in the three slices.
@@ -61,7 +61,8 @@ fn carry(a: &mut [f32], b: &mut [f32], c: &mut [f32], entry: u32, x: f32)
 // The same with all old vertices.
 fn gather(table: &[u32], vertices: &[f32], a: &mut [f32], b: &mut [f32], c: &mut [f32], axis: usize)
     requires { ⌜ Lists (now table) (now vertices) (now a) (now b) (now c) axis ⌝ }
-    ensures { λ _. ⌜ lines (now (a .exit)) (now (b .exit)) (now (c .exit)) ≡ gathered (now (table .entry)) (now (vertices .entry)) axis (lines (now (a .entry)) (now (b .entry)) (now (c .entry))) (vertexCount (now (vertices .entry))) ⌝ }
+    ensures { λ _. ⌜ lines (now (a .exit)) (now (b .exit)) (now (c .exit)) ≡ gathered (now (table .entry)) (now (vertices .entry)) axis
+        (lines (now (a .entry)) (now (b .entry)) (now (c .entry))) (vertexCount (now (vertices .entry))) ⌝ }
 {
     let count = vertices.len() / 3;
     let mut v = 0usize;
@@ -96,7 +97,11 @@ fn move_axis(
 )
     requires { ⌜ Lists (now table) (now vertices) (now a) (now b) (now c) axis ⌝ }
     requires { ⌜ (used ≤ vertexCount (now vertices)) × (used ≤ 3 * length (now a)) ⌝ }
-    ensures { λ _. ⌜ now (vertices .exit) ≡ scattered (gathered (now (table .entry)) (now (vertices .entry)) axis (lines (now (a .entry)) (now (b .entry)) (now (c .entry))) (vertexCount (now (vertices .entry)))) axis (now (vertices .entry)) used ⌝ }
+    ensures { λ _. ⌜ now (vertices .exit) ≡ scattered
+        (gathered (now (table .entry)) (now (vertices .entry)) axis
+        (lines (now (a .entry)) (now (b .entry)) (now (c .entry)))
+        (vertexCount (now (vertices .entry))))
+        axis (now (vertices .entry)) used ⌝ }
 {
     gather(table, vertices, a, b, c, axis);
     scatter(vertices, a, b, c, axis, used);
@@ -114,7 +119,9 @@ pub fn move_vertices(
     requires { ⌜ Even (now a) (now b) (now c) ⌝ }
     requires { ⌜ (used ≤ vertexCount (now vertices)) × (used ≤ 3 * length (now a)) × (vertexCount (now vertices) ≤ length (now table)) ⌝ }
     requires { ⌜ ((v : ℕ) → v < vertexCount (now vertices) → getD (now table) v 0 ≤ used) ⌝ }
-    ensures { λ _. ⌜ ((seen : List ℕ) → Slots seen (now (table .entry)) used → NoRepeat seen → ((w : ℕ) → w < length seen → getD seen w 0 < vertexCount (now (vertices .entry))) → take (3 * used) (now (vertices .exit)) ≡ placesOf (now (vertices .entry)) seen) ⌝ }
+    ensures { λ _. ⌜ ((seen : List ℕ) → Slots seen (now (table .entry)) used → NoRepeat seen
+        → ((w : ℕ) → w < length seen → getD seen w 0 < vertexCount (now (vertices .entry)))
+        → take (3 * used) (now (vertices .exit)) ≡ placesOf (now (vertices .entry)) seen) ⌝ }
 {
     move_axis(table, vertices, a, b, c, 0, used);
     move_axis(table, vertices, a, b, c, 1, used);

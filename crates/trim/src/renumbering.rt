@@ -7,7 +7,7 @@ ghost use Rattle.lists.specs.Lists.{zerosU};
 ghost use Rattle.closed.specs.Faces as Flat;
 ghost use Rattle.closed.specs.Numbering.{note, grow};
 ghost use Rattle.meshes.specs.FlatMesh.{Corners, faceCount};
-ghost use Rattle.trim.specs.Passes.{Slots, Noted, Renumbered};
+ghost use Rattle.trim.specs.Words.{Slots, Noted, Renumbered};
 use grid::Vertex;
 use meshes::read_face;
 use meshes::write_face;
@@ -31,7 +31,8 @@ fn note_vertex(table: &mut [u32], seen: u32, v: Vertex) -> u32
 fn note_face(table: &mut [u32], seen: u32, face: [u32; 3]) -> u32
     requires { ⌜ Corners (length (now table)) face ⌝ }
     requires { ⌜ seen + 3 < 2 ^ 32 ⌝ }
-    ensures { λ r. ⌜ ((s : List ℕ) → Slots s (now (table .entry)) seen → Slots (grow s (getD face 0 0 ∷ getD face 1 0 ∷ getD face 2 0 ∷ [])) (now (table .exit)) r) ⌝ }
+    ensures { λ r. ⌜ ((s : List ℕ) → Slots s (now (table .entry)) seen
+        → Slots (grow s (getD face 0 0 ∷ getD face 1 0 ∷ getD face 2 0 ∷ [])) (now (table .exit)) r) ⌝ }
     ensures { λ r. ⌜ r ≤ seen + 3 ⌝ }
 {
     let first = note_vertex(table, seen, Vertex::of(face[0]));
@@ -53,7 +54,8 @@ fn new_vertex(table: &[u32], v: Vertex) -> Vertex
 fn renamed(table: &[u32], face: [u32; 3]) -> [u32; 3]
     requires { ⌜ Corners (length (now table)) face ⌝ }
     requires { ⌜ Noted (now table) face ⌝ }
-    ensures { λ r. ⌜ r ≡ (getD (now (table .entry)) (getD face 0 0) 0 - 1) ∷ (getD (now (table .entry)) (getD face 1 0) 0 - 1) ∷ (getD (now (table .entry)) (getD face 2 0) 0 - 1) ∷ [] ⌝ }
+    ensures { λ r. ⌜ r ≡ (getD (now (table .entry)) (getD face 0 0) 0 - 1) ∷ (getD (now (table .entry)) (getD face 1 0) 0 - 1) ∷
+        (getD (now (table .entry)) (getD face 2 0) 0 - 1) ∷ [] ⌝ }
 {
     [
         new_vertex(table, Vertex::of(face[0])).number(),

@@ -1,5 +1,5 @@
--- The loop of `advance`: x and r are written up to i, and s is the sum of the new r's squares up to there (`Advancing`, the loop's whole invariant). The elements that a turn writes
--- are still as they came. Assumes nothing.
+-- The loop of `advance`: x and r are written up to i, and s is the sum of the new r's squares up to there (`Advancing`, the loop's whole invariant). The
+-- elements that a turn writes are still as they came. Assumes nothing.
 use mathlib.Core.Path.{_≡_, sym, ap, _∙_}
 use mathlib.Core.List.{List}
 use Prim.Native.Nat.{ℕ, _+_, _<_, _≤_}
@@ -7,14 +7,14 @@ use native.Mathlib.Omega.{arith}
 use lib.ListN.{length, set}
 use lib.Ieee.{Float, nan, binary32, binary64, add, sub, mul}
 use Rattle.lists.specs.Lists.{tabulate, at}
-use Rattle.lists.specs.Tabulate.{length-tabulate, at-tabulate, of-size}
-use Rattle.lists.specs.Fill.{Filled, filled-none, filled-more, filled-now, filled-done}
+use Rattle.lists.specs.laws.Tabulate.{length-tabulate, at-tabulate, of-size}
+use Rattle.lists.specs.laws.Fill.{Filled, filled-none, filled-more, filled-now, filled-done}
 use Rattle.grid.specs.declared.Grid.{Grid}
 use Rattle.grid.specs.Grid.{allNodes}
 use Rattle.numbers.specs.Constants.{zero64}
 use Rattle.vectors.specs.Vectors.{dotted, plusAt, minusAt}
-use Rattle.vectors.specs.Dotted.{Summed, summed-none, summed-more, summed-done}
-use Rattle.vectors.specs.Slices.{Advanced}
+use Rattle.vectors.specs.laws.Dotted.{Summed, summed-none, summed-more, summed-done}
+use Rattle.vectors.specs.Words.{Advanced}
 
 module _ (alpha : Float) (x₀ r₀ p ap' : List Float) where
   abbrev newR : List Float

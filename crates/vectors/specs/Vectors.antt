@@ -1,4 +1,5 @@
--- Document 01, "Solver", its dot product, and the sums over all nodes that a step makes. Values at the nodes are f32 and sums over them f64. Definitions only; assumes nothing.
+-- Document 01, "Solver", its dot product, and the sums over all nodes that a step makes. Values at the nodes are f32 and sums over them f64. Definitions
+-- only; assumes nothing.
 use mathlib.Core.List.{List}
 use Prim.Native.Nat.{ℕ}
 use lib.Ieee.{Float, binary32, binary64, add, sub, mul}

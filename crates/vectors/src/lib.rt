@@ -1,11 +1,11 @@
-// Document 01, "Solver", its dot product and the updates of a step, beside `dot` of the Rust's poisson.rs and the updates inside its `conjugate_gradient`: whole slices, one
-// element a node. Each is one plain loop, which becomes vector code.
+// Document 01, "Solver", its dot product and the updates of a step, beside `dot` of the Rust's poisson.rs and the updates inside its
+// `conjugate_gradient`: whole slices, one element a node. Each is one plain loop, which becomes vector code.
 ghost use mathlib.Core.Path.{_≡_};
 ghost use lib.ListN.{length};
 ghost use Rattle.lists.specs.Lists.{tabulate};
 ghost use Rattle.grid.specs.Grid.{allNodes};
 ghost use Rattle.vectors.specs.Vectors.{dotted, plusAt, lessAt};
-ghost use Rattle.vectors.specs.Slices.{NodeSlices, Advanced};
+ghost use Rattle.vectors.specs.Words.{NodeSlices, Advanced};
 use grid::Grid;
 
 // The dot product: f64, index order, from +0.0. The Rust's `dot` sums in any order.
@@ -37,7 +37,8 @@ pub fn squares(g: Grid, a: &[f32]) -> f64
     s
 }
 
-// x becomes x + alpha·p and r becomes r - alpha·ap; it answers dot(r, r) of the new r. One pass for all three: that sum must run in order, and the rest is done while it waits.
+// x becomes x + alpha·p and r becomes r - alpha·ap; it answers dot(r, r) of the new r. One pass for all three: that sum must run in order, and the rest
+// is done while it waits.
 pub fn advance(g: Grid, x: &mut [f32], r: &mut [f32], p: &[f32], ap: &[f32], alpha: f32) -> f64
     requires { ⌜ NodeSlices g (now x) (now r) (now p) (now ap) ⌝ }
     ensures { λ t. ⌜ Advanced g alpha (now (x .entry)) (now (r .entry)) (now (p .entry)) (now (ap .entry)) (now (x .exit)) (now (r .exit)) t ⌝ }

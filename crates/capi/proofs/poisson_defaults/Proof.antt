@@ -1,6 +1,6 @@
 -- Each number is a field of the settings that `Settings::new` gives, which are the defaults.
-use mathlib.Core.Path.{_≡_, ap}
-use mathlib.Core.List.{List, [], _∷_}
+use mathlib.Core.Path.{ap}
+use mathlib.Core.List.{[], _∷_}
 use Rattle.lists.specs.Lists.{zero32}
 use Rattle.settings.specs.declared.Settings.{Settings}
 use borrow.Author.Needs.{needs}

@@ -3,7 +3,7 @@ use mathlib.Core.Path.{sym, subst}
 use denote.Ref.{now}
 use borrow.Author.Needs.{needs}
 use Rattle.grid.specs.declared.Lattice.{Lattice}
-use Rattle.numbering.specs.FirstPass.{Numberable, Counted}
+use Rattle.numbering.specs.Words.{Numberable, Counted}
 use Rattle.extract_export.proofs.hoardmagpie_number_edges.Statement.{statement}
 use Rattle.extract_export.proofs.hoardmagpie_number_edges.Tie as tie
 

@@ -3,7 +3,7 @@ use mathlib.Core.Path.{sym, subst}
 use denote.Ref.{now}
 use borrow.Author.Needs.{needs}
 use Rattle.grid.specs.declared.Lattice.{Lattice}
-use Rattle.extract.specs.SecondPass.{Writable, Mesh}
+use Rattle.extract.specs.Words.{Writable, Mesh}
 use Rattle.extract_export.proofs.hoardmagpie_write_mesh.Statement.{statement}
 use Rattle.extract_export.proofs.hoardmagpie_write_mesh.Tie as tie
 

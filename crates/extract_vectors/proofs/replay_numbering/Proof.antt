@@ -1,7 +1,6 @@
 -- `extract_vectors::replay_numbering` hands the second pass what the first one ensures; the values that were read are as many as before. Assumes nothing.
 use native.Mathlib.Omega.{arith}
 use native.Mathlib.Omega.{arith}
-use lib.ListN.{length}
 use borrow.Author.Needs.{needs}
 use Rattle.extract_vectors.proofs.replay_numbering.Statement.{statement}
 use Rattle.extract_vectors.proofs.replay_numbering.Tie as tie

@@ -6,7 +6,7 @@ use denote.Ref.{now}
 use Rattle.lists.specs.Lists.{zeros32}
 use Rattle.points.specs.Points.{usables}
 use Rattle.blur.specs.Blur.{radiusOf}
-use Rattle.blur.specs.Radius.{radius-most}
+use Rattle.blur.specs.laws.Radius.{radius-most}
 use Rattle.field.proofs.RightSide.{by-kernel}
 use borrow.Author.Needs.{needs}
 use Rattle.field.proofs.right_side.Statement.{statement}

@@ -5,7 +5,7 @@ use denote.Ref.{now}
 use Rattle.numbers.specs.Arithmetic.{narrowed}
 use Rattle.points.specs.Points.{usables}
 use Rattle.field.specs.Field.{rightSideBy}
-use Rattle.field.specs.BoundaryZero.{length-component}
+use Rattle.field.specs.laws.BoundaryZero.{length-component}
 use Rattle.field.proofs.RightSide.{side-of}
 use borrow.Author.Needs.{needs}
 use Rattle.field.proofs.right_side_by.Statement.{statement}

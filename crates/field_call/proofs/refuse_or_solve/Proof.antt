@@ -6,7 +6,7 @@ use lib.ListN.{length}
 use denote.Ref.{now}
 use Rattle.settings.proofs.Verdicts.{refuses}
 use Rattle.settings.specs.declared.Lengths.{Lengths}
-use Rattle.settings.specs.Passed.{Fit, ChecksPassed}
+use Rattle.settings.specs.laws.Passed.{Fit, ChecksPassed}
 use Rattle.ending.specs.Slices.{Slices}
 use Rattle.scan.specs.Reconstruction.{lengthsOf}
 use Rattle.scan.proofs.ExactParts.{PartsLent, rooms, parts-lent}

@@ -1,7 +1,7 @@
 -- `laplacian::apply` meets its contract: the first plane, those between and the last are the whole (`planes-are`). Assumes nothing.
 use denote.Ref.{now}
 use native.Mathlib.Omega.{arith}
-use Rattle.grid.specs.Rows.{square-most, cube-most}
+use Rattle.grid.specs.laws.Rows.{square-most, cube-most}
 use Rattle.laplacian.proofs.ApplyRows.{planes, between-size, planes-are}
 use borrow.Author.Needs.{needs}
 use Rattle.laplacian.proofs.apply.Statement.{statement}

@@ -4,9 +4,9 @@ use Prim.Native.Nat.{ℕ, _+_, _-_, _*_, _≤_}
 use native.Mathlib.Nat.{zero-mul}
 use denote.Ref.{now}
 use native.Mathlib.Omega.{arith}
-use Rattle.lists.specs.Fill.{Filled, filled-none, filled-done}
-use Rattle.lists.specs.Part.{length-part}
-use Rattle.grid.specs.Rows.{row-end, square-most}
+use Rattle.lists.specs.laws.Fill.{Filled, filled-none, filled-done}
+use Rattle.lists.specs.laws.Part.{length-part}
+use Rattle.grid.specs.laws.Rows.{row-end, square-most}
 use Rattle.laplacian.specs.Laplacian.{applyAt}
 use Rattle.laplacian.proofs.ApplyRows.{between-more, between-most, between-row}
 use Rattle.laplacian.proofs.apply_between.Statement.{statement}

@@ -3,7 +3,7 @@ use mathlib.Core.Path.{sym, _∙_}
 use Prim.Native.Nat.{_<_}
 use denote.Ref.{now}
 use native.Mathlib.Omega.{arith}
-use Rattle.grid.specs.Rows.{square-most, row-plane, inner-row}
+use Rattle.grid.specs.laws.Rows.{square-most, row-plane, inner-row}
 use Rattle.laplacian.proofs.ApplyRows.{boundary-row-is, inner-row-is}
 use borrow.Author.Needs.{needs}
 use Rattle.laplacian.proofs.apply_row.Statement.{statement}

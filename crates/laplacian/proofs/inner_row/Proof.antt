@@ -5,8 +5,8 @@ use native.Mathlib.Omega.{arith}
 use lib.ListN.{length, length-set}
 use denote.Ref.{now}
 use Rattle.lists.specs.Lists.{zero32}
-use Rattle.lists.specs.Fill.{Filled}
-use Rattle.laplacian.specs.Inner.{innerRowAt}
+use Rattle.lists.specs.laws.Fill.{Filled}
+use Rattle.laplacian.specs.Words.{innerRowAt}
 use Rattle.laplacian.proofs.InnerRow.{row-start, row-more, row-done}
 use Rattle.laplacian.proofs.inner_row.Statement.{statement}
 use Rattle.laplacian.proofs.inner_row.Tie as tie

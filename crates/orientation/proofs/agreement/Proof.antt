@@ -11,7 +11,7 @@ use Rattle.closed.specs.Faces as Flat
 use Rattle.lists.specs.EveryNth.{strideFor, everyFrom}
 use Rattle.meshes.specs.FlatMesh.{faceCount}
 use Rattle.orientation.specs.Orientation.{signAt, plusSign, agreementOf}
-use Rattle.meshes.specs.FlatFaces.{noFace, face-read, meshed-faces, meshed-face}
+use Rattle.meshes.specs.laws.FlatFaces.{noFace, face-read, meshed-faces, meshed-face}
 use Rattle.orientation.proofs.EveryOther.{Asking, asking-none, asking-more, asking-done}
 use Rattle.orientation.proofs.agreement.Statement.{statement}
 use Rattle.orientation.proofs.agreement.Tie as tie

@@ -5,7 +5,7 @@ use lib.Ieee.{Float, binary64, ofBits, lt}
 use denote.Ref.{now}
 use Rattle.closed.specs.Faces as Flat
 use Rattle.orientation.specs.Orientation.{agreementOf, orientedFaces}
-use Rattle.meshes.specs.FlatFaces.{meshed-corners}
+use Rattle.meshes.specs.laws.FlatFaces.{meshed-corners}
 use borrow.Author.Needs.{needs}
 use Rattle.orientation.proofs.orient.Statement.{statement}
 use Rattle.orientation.proofs.orient.Tie as tie

@@ -7,11 +7,11 @@ use borrow.Author.Needs.{needs}
 use lib.ListN.{length, getD, length-map}
 use denote.Ref.{now}
 use Rattle.closed.specs.Faces as Flat
-use Rattle.closed.specs.Counting.{at-map}
-use Rattle.closed.specs.Turning.{length-faces}
-use Rattle.lists.specs.Tabulate.{tabulate-by}
+use Rattle.closed.specs.laws.Counting.{at-map}
+use Rattle.closed.specs.laws.Turning.{length-faces}
+use Rattle.lists.specs.laws.Tabulate.{tabulate-by}
 use Rattle.meshes.specs.FlatMesh.{faceCount}
-use Rattle.meshes.specs.FlatFaces.{noFace, FacesFilled, faces-none, faces-now, faces-more, faces-done}
+use Rattle.meshes.specs.laws.FlatFaces.{noFace, FacesFilled, faces-none, faces-now, faces-more, faces-done}
 use Rattle.orientation.proofs.turn_all.Statement.{statement}
 use Rattle.orientation.proofs.turn_all.Tie as tie
 

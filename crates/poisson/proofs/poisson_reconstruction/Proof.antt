@@ -2,7 +2,7 @@
 use mathlib.Core.Path.{ap, _∙_}
 use native.Mathlib.Omega.{arith}
 use Rattle.lists.specs.Lists.{zero32, zeros32, zerosU}
-use Rattle.lists.specs.Padded.{cleared-padded}
+use Rattle.lists.specs.laws.Padded.{cleared-padded}
 use borrow.Author.Needs.{needs}
 use Rattle.poisson.proofs.poisson_reconstruction.Statement.{statement}
 use Rattle.poisson.proofs.poisson_reconstruction.Tie as tie

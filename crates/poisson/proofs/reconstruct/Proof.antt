@@ -15,7 +15,7 @@ use Rattle.points.specs.declared.point.Point.{Point}
 use Rattle.points.specs.Points.{usables}
 use Rattle.settings.specs.declared.Settings.{Settings}
 use Rattle.settings.proofs.Verdicts.{refuses}
-use Rattle.numbering.specs.FirstPass.{Counted}
+use Rattle.numbering.specs.Words.{Counted}
 use Rattle.scan.specs.Reconstruction.{gridFor, latticeFor, fieldFor, levelFor, vertexTotal, faceTotal, keptVertices}
 use Rattle.scan.proofs.PutTogether.{nodes-cubed, lattice-size, grid-is, counted-is}
 use Rattle.poisson.proofs.Results.{few-totals, mesh-refused, mesh-room, mesh-shown, holds, no-longer}

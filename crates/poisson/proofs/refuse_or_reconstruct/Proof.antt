@@ -6,7 +6,7 @@ use lib.ListN.{length}
 use lib.Seq.{length-take-le}
 use denote.Ref.{now}
 use Rattle.settings.specs.declared.Lengths.{Lengths}
-use Rattle.settings.specs.Passed.{Fit, ChecksPassed}
+use Rattle.settings.specs.laws.Passed.{Fit, ChecksPassed}
 use Rattle.ending.specs.Slices.{Slices}
 use Rattle.scan.specs.Reconstruction.{lengthsOf}
 use Rattle.scan.proofs.ExactParts.{PartsLent, rooms, table-room, parts-lent}

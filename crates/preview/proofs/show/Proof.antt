@@ -1,7 +1,7 @@
 -- A sheet that fits has its points.
-use mathlib.Core.Path.{_≡_, sym, _∙_}
+use mathlib.Core.Path.{sym, _∙_}
 use denote.Ref.{now}
-use Rattle.sheet.specs.SheetRoom.{fits-roomy}
+use Rattle.sheet.specs.laws.SheetRoom.{fits-roomy}
 use borrow.Author.Needs.{needs}
 use Rattle.preview.proofs.show.Statement.{statement}
 use Rattle.preview.proofs.show.Tie as tie

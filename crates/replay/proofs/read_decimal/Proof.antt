@@ -1,5 +1,5 @@
 -- The number is that of the word which `next_word` finds. Assumes nothing.
-use mathlib.Core.Path.{_≡_, ap, _∙_}
+use mathlib.Core.Path.{ap, _∙_}
 use denote.Ref.{now}
 use Rattle.replay.specs.Words.{decimalOf}
 use Rattle.replay.proofs.Located.{ends, spelt}

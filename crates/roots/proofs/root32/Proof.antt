@@ -7,8 +7,8 @@ use lib.Ieee.{binary32, fits, ofBits, div}
 use lib.Ieee.Bits.{ofBits-toBits}
 use lib.Ieee.Positive.{positive}
 use Rattle.numbers.specs.Arithmetic.{rooted}
-use Rattle.numbers.specs.Patterns.{no-nan}
-use Rattle.numbers.specs.RootCases.{positive-of, positive-number, infinite-of, zero-of, other-of, pattern-of}
+use Rattle.numbers.specs.laws.Patterns.{no-nan}
+use Rattle.numbers.specs.laws.RootCases.{positive-of, positive-number, infinite-of, zero-of, other-of, pattern-of}
 use Rattle.roots.proofs.root32.Statement.{statement}
 use Rattle.roots.proofs.root32.Tie as tie
 

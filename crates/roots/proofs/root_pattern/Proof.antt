@@ -7,10 +7,10 @@ use lib.Pow.{pow-mono}
 use lib.Count.{leading-le}
 use lib.Ieee.{prec, emax, hid, ones, ofBits}
 use Rattle.numbers.specs.Arithmetic.{rooted}
-use Rattle.numbers.specs.Squares.{IsRoot}
-use Rattle.roots.specs.RootWords.{IsFormat, RootOf}
-use Rattle.numbers.specs.Patterns.{expo}
-use Rattle.numbers.specs.RootPattern.{Sizes, sizes, Known, known, root-under, power, wide, root-pattern}
+use Rattle.numbers.specs.laws.Squares.{IsRoot}
+use Rattle.roots.specs.Words.{IsFormat, RootOf}
+use Rattle.numbers.specs.laws.Patterns.{expo}
+use Rattle.numbers.specs.laws.RootPattern.{Sizes, sizes, Known, known, root-under, power, wide, root-pattern}
 use Rattle.roots.proofs.root_pattern.Statement.{statement}
 use Rattle.roots.proofs.root_pattern.Tie as tie
 

@@ -1,7 +1,8 @@
--- `roots::small_root` meets its contract, whatever the guess: after the first loop the square is at most n, and after the second the next one is above n. Assumes nothing.
+-- `roots::small_root` meets its contract, whatever the guess: after the first loop the square is at most n, and after the second the next one is above n.
+-- Assumes nothing.
 use Prim.Native.Nat.{_+_, _-_, _*_, _^_, _≤_, _<_}
 use native.Mathlib.Omega.{arith}
-use Rattle.numbers.specs.Squares.{square-mono, square-lt-back}
+use Rattle.numbers.specs.laws.Squares.{square-mono, square-lt-back}
 use Rattle.roots.proofs.small_root.Statement.{statement}
 use Rattle.roots.proofs.small_root.Tie as tie
 

@@ -4,8 +4,8 @@ use mathlib.Core.Path.{sym, subst}
 use Prim.Native.Nat.{ℕ, _+_, _-_, _*_, _/_, _^_, _<_}
 use native.Mathlib.Nat.{div-mul-le-self}
 use native.Mathlib.Omega.{arith}
-use Rattle.numbers.specs.Squares.{IsRoot}
-use Rattle.numbers.specs.RootDivide.{Split, split-of, top-lt, s-lt, s-pos, rest-lt, lower-lt, q-le, over-small, square-small, exact, positive, less, product-lt}
+use Rattle.numbers.specs.laws.Squares.{IsRoot}
+use Rattle.numbers.specs.laws.RootDivide.{Split, split-of, top-lt, s-lt, s-pos, rest-lt, lower-lt, q-le, over-small, square-small, exact, positive, less, product-lt}
 use Rattle.roots.proofs.whole_root.Statement.{statement}
 use Rattle.roots.proofs.whole_root.Tie as tie
 

@@ -4,7 +4,7 @@ use native.Mathlib.Omega.{arith}
 use denote.Ref.{now}
 use Rattle.lists.specs.Lists.{zeros32}
 use Rattle.points.specs.Points.{usables}
-use Rattle.scan.specs.FieldLength.{cubed}
+use Rattle.scan.specs.laws.FieldLength.{cubed}
 use Rattle.scan.proofs.PutTogether.{nodes-cubed, field-is, grid-is, level-is}
 use borrow.Author.Needs.{needs}
 use Rattle.scan.proofs.field_and_level.Statement.{statement}

@@ -1,5 +1,5 @@
 -- A flag that is not 0 has a distance.
-use mathlib.Core.Path.{_≡_, _∙_}
+use mathlib.Core.Path.{_∙_}
 use borrow.Author.Tests.{ne-eqb}
 use Rattle.sheet.specs.Sheet.{flagOf}
 use borrow.Author.Needs.{needs}

@@ -6,11 +6,11 @@ use denote.Ref.{now}
 use lib.ListN.{length}
 use lib.Ieee.{binary32, mul}
 use Rattle.lists.specs.Lists.{zerosU}
-use Rattle.closed.specs.Faces.{Face, faces}
+use Rattle.closed.specs.Faces.{Face}
 use Rattle.closed.specs.Numbering.{used, mesh}
 use Rattle.points.specs.Points.{usables}
 use Rattle.trim.specs.Trim.{near, nearFaces}
-use Rattle.trim.specs.Passes.{Slots}
+use Rattle.trim.specs.Words.{Slots}
 use Rattle.trim.proofs.Places.{kept-few, front-below}
 use borrow.Author.Needs.{needs}
 use Rattle.trim.proofs.keep_near.Statement.{statement}

@@ -1,13 +1,14 @@
--- `trim::trim_within` meets its contract: the passes together are the trim within a distance (`trimmed-within`), and what is kept is no more than what came (`few`). Assumes nothing.
+-- `trim::trim_within` meets its contract: the passes together are the trim within a distance (`trimmed-within`), and what is kept is no more than what
+-- came (`few`). Assumes nothing.
 use mathlib.Core.Path.{_≡_}
 use Prim.Native.Nat.{_*_, _^_, _≤_, _<_}
 use native.Mathlib.Omega.{arith}
 use denote.Ref.{now}
 use lib.ListN.{length}
-use Rattle.closed.specs.Mesh.{used-no-repeat}
+use Rattle.closed.specs.laws.Mesh.{used-no-repeat}
 use Rattle.points.specs.Points.{usables}
 use Rattle.meshes.specs.FlatMesh.{vertexCount}
-use Rattle.trim.specs.Passes.{Even}
+use Rattle.trim.specs.Words.{Even}
 use Rattle.trim.proofs.WithinDistance.{slots-le, within-below, within-vertices, within-faces, within-count, trimmed-within}
 use borrow.Author.Needs.{needs}
 use Rattle.trim.proofs.trim_within.Statement.{statement}

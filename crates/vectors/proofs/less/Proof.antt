@@ -3,7 +3,7 @@ use mathlib.Core.Path.{refl}
 use Prim.Native.Nat.{_-_}
 use native.Mathlib.Omega.{arith}
 use lib.ListN.{length}
-use Rattle.lists.specs.Fill.{Filled, filled-none, filled-more, filled-done}
+use Rattle.lists.specs.laws.Fill.{Filled, filled-none, filled-more, filled-done}
 use Rattle.vectors.specs.Vectors.{lessAt}
 use Rattle.vectors.proofs.less.Statement.{statement}
 use Rattle.vectors.proofs.less.Tie as tie

@@ -1,10 +1,11 @@
--- `vectors::xpay` meets its contract: after i turns `p` is what came with the sums of the first i nodes written; the element that a turn writes is still as it came. Assumes nothing.
+-- `vectors::xpay` meets its contract: after i turns `p` is what came with the sums of the first i nodes written; the element that a turn writes is still
+-- as it came. Assumes nothing.
 use mathlib.Core.Path.{refl}
 use Prim.Native.Nat.{_-_}
 use native.Mathlib.Omega.{arith}
 use lib.ListN.{length}
 use lib.Ieee.{nan}
-use Rattle.lists.specs.Fill.{Filled, filled-none, filled-more, filled-now, filled-done}
+use Rattle.lists.specs.laws.Fill.{Filled, filled-none, filled-more, filled-now, filled-done}
 use Rattle.vectors.specs.Vectors.{plusAt}
 use Rattle.vectors.proofs.xpay.Statement.{statement}
 use Rattle.vectors.proofs.xpay.Tie as tie

@@ -3,7 +3,7 @@ use mathlib.Core.Path.{_≡_, refl, sym, ap, _∙_}
 use Prim.Native.Nat.{ℕ, _≤_}
 use native.Mathlib.Omega.{arith}
 use Rattle.numbers.specs.Arithmetic.{squared}
-use Rattle.numbers.specs.Series.{squared-step}
+use Rattle.numbers.specs.laws.Series.{squared-step}
 use Rattle.arith.proofs.exponential.squares.Statement.{statement}
 use Rattle.arith.proofs.exponential.squares.Tie as tie
 

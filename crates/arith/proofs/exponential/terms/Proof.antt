@@ -4,7 +4,7 @@ use Prim.Native.Nat.{ℕ, _≤_}
 use native.Mathlib.Omega.{arith}
 use Rattle.numbers.specs.Constants.{one64}
 use Rattle.numbers.specs.Arithmetic.{series}
-use Rattle.numbers.specs.Series.{series-step}
+use Rattle.numbers.specs.laws.Series.{series-step}
 use Rattle.arith.proofs.exponential.terms.Statement.{statement}
 use Rattle.arith.proofs.exponential.terms.Tie as tie
 

@@ -1,8 +1,9 @@
--- `arith::magnitude` meets its contract, by `NarrowPattern`: in the normal range one rounding of the whole pattern moves the exponent's field too. Assumes nothing.
+-- `arith::magnitude` meets its contract, by `NarrowPattern`: in the normal range one rounding of the whole pattern moves the exponent's field too.
+-- Assumes nothing.
 use Prim.Native.Nat.{_*_, _^_, _≤_, _<_}
 use native.Mathlib.Omega.{arith}
 use borrow.Author.Needs.{needs}
-use Rattle.numbers.specs.NarrowPattern.{magnitude-normal}
+use Rattle.numbers.specs.laws.NarrowPattern.{magnitude-normal}
 use Rattle.arith.proofs.narrowing.magnitude.Statement.{statement}
 use Rattle.arith.proofs.narrowing.magnitude.Tie as tie
 

@@ -4,7 +4,7 @@ use mathlib.Core.Bool.{false, not}
 use native.Mathlib.Omega.{arith}
 use lib.Dec.{T}
 use lib.Ieee.{Float, binary64, fits, isNan}
-use Rattle.numbers.specs.NarrowPattern.{bits-lt, under-nan, fits-32, narrowed-no-nan, narrowed-is, not-nan, nan-narrows}
+use Rattle.numbers.specs.laws.NarrowPattern.{bits-lt, under-nan, fits-32, narrowed-no-nan, narrowed-is, not-nan, nan-narrows}
 use Rattle.arith.proofs.narrowing.narrow.Statement.{statement}
 use Rattle.arith.proofs.narrowing.narrow.Tie as tie
 

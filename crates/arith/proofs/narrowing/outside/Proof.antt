@@ -1,6 +1,6 @@
 -- `arith::outside` meets its contract, by `NarrowPattern`: from 2 ^ 128 on, the result is an infinity. Assumes nothing.
 use borrow.Author.Needs.{needs}
-use Rattle.numbers.specs.NarrowPattern.{magnitude-large}
+use Rattle.numbers.specs.laws.NarrowPattern.{magnitude-large}
 use Rattle.arith.proofs.narrowing.outside.Statement.{statement}
 use Rattle.arith.proofs.narrowing.outside.Tie as tie
 

@@ -1,7 +1,7 @@
 -- `arith::rounded` meets its contract. `ClosestAdd` says that the sum rounds to nearest even. Assumes nothing.
 use native.Mathlib.Omega.{arith}
 use borrow.Author.Needs.{needs}
-use Rattle.numbers.specs.ClosestAdd.{half-in, closest-shift}
+use Rattle.numbers.specs.laws.ClosestAdd.{half-in, closest-shift}
 use Rattle.arith.proofs.narrowing.rounded.Statement.{statement}
 use Rattle.arith.proofs.narrowing.rounded.Tie as tie
 

@@ -1,10 +1,11 @@
--- `arith::scaled` meets its contract. The digits moved up by z over 2 ^ (lift + z) are the same fraction, and where lift + z is above 53 it is below a half. Assumes nothing.
+-- `arith::scaled` meets its contract. The digits moved up by z over 2 ^ (lift + z) are the same fraction, and where lift + z is above 53 it is below a
+-- half. Assumes nothing.
 use mathlib.Core.Path.{_∙_}
 use Prim.Native.Nat.{_-_}
 use native.Mathlib.Omega.{arith}
 use borrow.Author.Needs.{needs}
 use lib.Count.{leadingZeros}
-use Rattle.numbers.specs.ClosestAdd.{lifted, closest-moved, closest-nothing}
+use Rattle.numbers.specs.laws.ClosestAdd.{lifted, closest-moved, closest-nothing}
 use Rattle.arith.proofs.narrowing.scaled.Statement.{statement}
 use Rattle.arith.proofs.narrowing.scaled.Tie as tie
 

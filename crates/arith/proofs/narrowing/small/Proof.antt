@@ -1,6 +1,6 @@
 -- `arith::small` meets its contract: the digits and the exponent of the two fields, by `NarrowPattern`. Assumes nothing.
 use borrow.Author.Needs.{needs}
-use Rattle.numbers.specs.NarrowPattern.{small-zero, small-field}
+use Rattle.numbers.specs.laws.NarrowPattern.{small-zero, small-field}
 use Rattle.arith.proofs.narrowing.small.Statement.{statement}
 use Rattle.arith.proofs.narrowing.small.Tie as tie
 

@@ -2,7 +2,7 @@
 use mathlib.Core.Path.{sym, _∙_}
 use borrow.Author.Needs.{needs}
 use lib.Ieee.{binary32}
-use Rattle.numbers.specs.NanTest.{zero-by-zero, above-infinity, up-to-infinity}
+use Rattle.numbers.specs.laws.NanTest.{zero-by-zero, above-infinity, up-to-infinity}
 use Rattle.arith.proofs.patterns.float32.Statement.{statement}
 use Rattle.arith.proofs.patterns.float32.Tie as tie
 

@@ -3,9 +3,9 @@ use mathlib.Core.Path.{sym, _∙_, subst}
 use mathlib.Core.Bool.{not}
 use lib.Dec.{T}
 use lib.Ieee.{binary64, fits}
-use Rattle.numbers.specs.Comparing.{ne-itself}
-use Rattle.numbers.specs.NanTest.{differs, zero-by-zero}
-use Rattle.numbers.specs.Signs.{sign-clear, sign-set, sign-nan}
+use Rattle.numbers.specs.laws.Comparing.{ne-itself}
+use Rattle.numbers.specs.laws.NanTest.{differs, zero-by-zero}
+use Rattle.numbers.specs.laws.Signs.{sign-clear, sign-set, sign-nan}
 use Rattle.arith.proofs.pick.sign.Statement.{statement}
 use Rattle.arith.proofs.pick.sign.Tie as tie
 

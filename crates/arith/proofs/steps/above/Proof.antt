@@ -3,7 +3,7 @@ use mathlib.Core.Path.{sym, subst}
 use native.Mathlib.Omega.{arith}
 use lib.Dec.{T}
 use lib.Ieee.{binary64, fits}
-use Rattle.numbers.specs.Steps.{in-range, q-lt, castable, castable-next, when-whole, ceil-part, from-limit}
+use Rattle.numbers.specs.laws.Steps.{in-range, q-lt, castable, castable-next, when-whole, ceil-part, from-limit}
 use Rattle.arith.proofs.steps.above.Statement.{statement}
 use Rattle.arith.proofs.steps.above.Tie as tie
 

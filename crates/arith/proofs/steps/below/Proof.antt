@@ -1,8 +1,9 @@
--- `arith::below` meets its contract. From 2 ^ 52 on a value is whole; under it the whole part is a float exactly, and it is y where y is whole. Assumes nothing.
+-- `arith::below` meets its contract. From 2 ^ 52 on a value is whole; under it the whole part is a float exactly, and it is y where y is whole. Assumes
+-- nothing.
 use mathlib.Core.Path.{sym, subst}
 use lib.Dec.{T}
 use lib.Ieee.{binary64, fits}
-use Rattle.numbers.specs.Steps.{in-range, castable, when-whole, floor-part, from-limit}
+use Rattle.numbers.specs.laws.Steps.{in-range, castable, when-whole, floor-part, from-limit}
 use Rattle.arith.proofs.steps.below.Statement.{statement}
 use Rattle.arith.proofs.steps.below.Tie as tie
 

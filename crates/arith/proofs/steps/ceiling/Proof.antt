@@ -2,8 +2,8 @@
 use mathlib.Core.Path.{ap, _∙_}
 use borrow.Author.Needs.{needs}
 use lib.Ieee.{neg}
-use Rattle.numbers.specs.Steps.{above-nought, below-nought, at-rest}
-use Rattle.numbers.specs.Symmetry.{floored-neg, neg-neg}
+use Rattle.numbers.specs.laws.Steps.{above-nought, below-nought, at-rest}
+use Rattle.numbers.specs.laws.Symmetry.{floored-neg, neg-neg}
 use Rattle.arith.proofs.steps.ceiling.Statement.{statement}
 use Rattle.arith.proofs.steps.ceiling.Tie as tie
 

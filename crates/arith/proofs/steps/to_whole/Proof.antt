@@ -1,8 +1,8 @@
 -- `arith::to_whole` meets its contract: between -1 and 2 ^ 64 it is std's cast, and past either end the end itself. Assumes nothing.
 use borrow.Author.Needs.{needs}
 use lib.Ieee.{ofBits, neg}
-use Rattle.numbers.specs.Comparing.{holds}
-use Rattle.numbers.specs.Casts.{cast-top, cast-none}
+use Rattle.numbers.specs.laws.Comparing.{holds}
+use Rattle.numbers.specs.laws.Casts.{cast-top, cast-none}
 use Rattle.arith.proofs.steps.to_whole.Statement.{statement}
 use Rattle.arith.proofs.steps.to_whole.Tie as tie
 

@@ -5,7 +5,7 @@ use Prim.Native.Nat.{_≤_, _+_, _*_}
 use lib.ListN.{length}
 use denote.Ref.{now}
 use Rattle.blur.specs.declared.blur.Place.{Place}
-use Rattle.blur.specs.Inner.{Reach}
+use Rattle.blur.specs.Words.{Reach}
 use Rattle.blur.proofs.Terms.{across-at, across-outside}
 use borrow.Author.Needs.{needs}
 use native.Mathlib.Omega.{arith}

@@ -4,8 +4,8 @@ use mathlib.Core.Path.{refl}
 use Prim.Native.Nat.{_-_}
 use lib.ListN.{length}
 use lib.Ieee.{nan}
-use Rattle.lists.specs.Fill.{Filled, filled-none, filled-more, filled-now, filled-done}
-use Rattle.blur.specs.Inner.{plusTimes}
+use Rattle.lists.specs.laws.Fill.{Filled, filled-none, filled-more, filled-now, filled-done}
+use Rattle.blur.specs.Words.{plusTimes}
 use native.Mathlib.Omega.{arith}
 use Rattle.blur.proofs.blur.add_times.Statement.{statement}
 use Rattle.blur.proofs.blur.add_times.Tie as tie

@@ -4,7 +4,7 @@ use mathlib.Core.Path.{refl, sym, _∙_}
 use Prim.Native.Nat.{_+_, _-_}
 use lib.ListN.{length}
 use denote.Ref.{now}
-use Rattle.lists.specs.Part.{length-part}
+use Rattle.lists.specs.laws.Part.{length-part}
 use Rattle.blur.proofs.Moved.{inside-moved}
 use Rattle.blur.proofs.Runs.{run-back, run-none}
 use borrow.Author.Needs.{needs}

@@ -5,10 +5,10 @@ use Prim.Native.Nat.{_≤_, _-_}
 use lib.ListN.{length, length-replicate}
 use denote.Ref.{now}
 use Rattle.lists.specs.Lists.{tabulate, zeros32}
-use Rattle.lists.specs.Tabulate.{length-tabulate}
+use Rattle.lists.specs.laws.Tabulate.{length-tabulate}
 use Rattle.blur.specs.declared.blur.Place.{Place}
 use Rattle.blur.specs.Blur.{blurTo}
-use Rattle.blur.specs.Inner.{across, Reach}
+use Rattle.blur.specs.Words.{across, Reach}
 use Rattle.blur.proofs.Moved.{moved-reach}
 use Rattle.blur.proofs.Terms.{blur-none, blur-more, blur-done}
 use borrow.Author.Needs.{needs}

@@ -5,7 +5,7 @@ use Prim.Native.Nat.{ℕ, _≤_, _-_}
 use lib.ListN.{length, length-replicate}
 use denote.Ref.{now}
 use Rattle.lists.specs.Lists.{tabulate, zeros32}
-use Rattle.lists.specs.Tabulate.{length-tabulate}
+use Rattle.lists.specs.laws.Tabulate.{length-tabulate}
 use Rattle.blur.specs.Blur.{movedTo, blurTo}
 use Rattle.blur.proofs.Terms.{blur-none, blur-more, blur-done}
 use borrow.Author.Needs.{needs}

@@ -3,10 +3,10 @@
 use mathlib.Core.Path.{_≡_, refl, ap}
 use Prim.Native.Nat.{ℕ, _≤_, _+_, _-_, _*_}
 use native.Mathlib.Nat.{zero-mul}
-use Rattle.lists.specs.Fill.{Filled, filled-none, filled-done}
-use Rattle.lists.specs.Part.{length-part, filled-part}
-use Rattle.grid.specs.Rows.{row-next, square-most}
-use Rattle.blur.specs.Within.{Within, within-cube}
+use Rattle.lists.specs.laws.Fill.{Filled, filled-none, filled-done}
+use Rattle.lists.specs.laws.Part.{length-part, filled-part}
+use Rattle.grid.specs.laws.Rows.{row-next, square-most}
+use Rattle.blur.specs.laws.Within.{Within, within-cube}
 use Rattle.blur.specs.Blur.{blurAt}
 use native.Mathlib.Omega.{arith}
 use Rattle.blur.proofs.blur.blur_axis.Statement.{statement}

@@ -4,9 +4,9 @@ use mathlib.Core.Path.{_∙_}
 use Prim.Native.Nat.{_+_, _*_, _/_, _≤_}
 use native.Mathlib.Nat.{mul-assoc}
 use denote.Ref.{now}
-use Rattle.lists.specs.Part.{length-part}
-use Rattle.grid.specs.Rows.{row-of, row-end, row-plane}
-use Rattle.blur.specs.Within.{Within, within-cube, planes-within, rows-within}
+use Rattle.lists.specs.laws.Part.{length-part}
+use Rattle.grid.specs.laws.Rows.{row-of, row-end, row-plane}
+use Rattle.blur.specs.laws.Within.{Within, within-cube, planes-within, rows-within}
 use Rattle.blur.proofs.Axes.{axis-0, axis-1, axis-2}
 use borrow.Author.Needs.{needs}
 use native.Mathlib.Omega.{arith}

@@ -1,8 +1,7 @@
 -- `calls_replayed::words::read_lengths` ends: each turn reads a word of the text for the next length. Assumes nothing.
 use mathlib.Core.Path.{_≡_}
 use Prim.Native.Nat.{_-_, _≤_}
-use native.Mathlib.Omega.{arith}
-use lib.ListN.{length, length-set}
+use lib.ListN.{length}
 use borrow.Author.Needs.{needs}
 use Rattle.calls_replayed.proofs.words.read_lengths.Statement.{statement}
 use Rattle.calls_replayed.proofs.words.read_lengths.Tie as tie

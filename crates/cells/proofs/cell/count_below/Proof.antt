@@ -5,11 +5,11 @@ use Prim.Native.Nat.{ℕ, _+_, _-_, _<_, _≤_}
 use native.Mathlib.Omega.{arith}
 use lib.ListN.{length}
 use Rattle.closed.specs.Lists.{bit}
-use Rattle.closed.specs.Sums.{sum-zero, sum-one-more}
+use Rattle.closed.specs.laws.Sums.{sum-zero, sum-one-more}
 use Rattle.lists.specs.Lists.{at}
 use Rattle.cells.specs.Extraction.{isBelow}
-use Rattle.cells.specs.CellWords.{belowCount}
-use Rattle.cells.specs.Plain.{bits-most}
+use Rattle.cells.specs.Words.{belowCount}
+use Rattle.cells.specs.laws.Plain.{bits-most}
 use borrow.Author.Needs.{needs}
 use Rattle.cells.proofs.cell.count_below.Statement.{statement}
 use Rattle.cells.proofs.cell.count_below.Tie as tie

@@ -3,11 +3,11 @@ use mathlib.Core.Path.{sym, subst, _∙_}
 use Prim.Native.Nat.{ℕ, _<_}
 use native.Mathlib.Omega.{arith}
 use lib.ListN.{getD}
-use Rattle.closed.specs.Crossings.{node-lt}
+use Rattle.closed.specs.laws.Crossings.{node-lt}
 use Rattle.grid.specs.Grid.{Position}
-use Rattle.cubes.specs.Edges.{low-small, axis-small}
+use Rattle.cubes.specs.laws.Edges.{low-small, axis-small}
 use Rattle.cells.specs.Extraction.{countY, countZ}
-use Rattle.cells.specs.Cells.{corner-inside, offset-is}
+use Rattle.cells.specs.laws.Cells.{corner-inside, offset-is}
 use borrow.Author.Needs.{needs}
 use Rattle.cells.proofs.cell.first_edge.Statement.{statement}
 use Rattle.cells.proofs.cell.first_edge.Tie as tie

@@ -5,8 +5,8 @@ use Prim.Native.Nat.{ℕ, _+_, _*_, _≤_}
 use native.Mathlib.Omega.{arith}
 use borrow.Author.Tests.{ne-eqb}
 use lib.Dec.{eqb}
-use Rattle.cells.specs.CellWords.{belowCount, lineBelow}
-use Rattle.cells.specs.Plain.{row-most}
+use Rattle.cells.specs.Words.{belowCount, lineBelow}
+use Rattle.cells.specs.laws.Plain.{row-most}
 use Rattle.cells.proofs.cell.is_plain.Statement.{statement}
 use Rattle.cells.proofs.cell.is_plain.Tie as tie
 

@@ -6,7 +6,7 @@ use lib.ListN.{length}
 use Rattle.lists.specs.Lists.{at}
 use Rattle.closed.specs.Lists.{bit}
 use Rattle.cells.specs.Extraction.{isBelow}
-use Rattle.cells.specs.CellWords.{sideAt}
+use Rattle.cells.specs.Words.{sideAt}
 use borrow.Author.Needs.{needs}
 use Rattle.cells.proofs.cell.side_of.Statement.{statement}
 use Rattle.cells.proofs.cell.side_of.Tie as tie

@@ -1,4 +1,5 @@
--- The lower node is the edge's and the upper one a stride further, both inside (`upper`); the counts are small (`small`); so what is made of them is the vertex.
+-- The lower node is the edge's and the upper one a stride further, both inside (`upper`); the counts are small (`small`); so what is made of them is the
+-- vertex.
 use Prim.Native.Nat.{_+_, _≤_, _<_}
 use native.Mathlib.Omega.{arith}
 use lib.ListN.{length, getD}

@@ -6,7 +6,7 @@ use native.Mathlib.Nat.{mul-le-mul-right, mul-assoc, one-mul}
 use native.Mathlib.Omega.{arith}
 use borrow.Author.Tests.{eq-eqb, ne-eqb}
 use lib.ListN.{getD}
-use Rattle.cells.specs.CellWords.{stride}
+use Rattle.cells.specs.Words.{stride}
 use borrow.Author.Needs.{needs}
 use Rattle.cells.proofs.vertex.stride_of.Statement.{statement}
 use Rattle.cells.proofs.vertex.stride_of.Tie as tie

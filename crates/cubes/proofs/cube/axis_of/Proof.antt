@@ -3,7 +3,7 @@
 use mathlib.Core.Path.{sym, subst}
 use Prim.Native.Nat.{ℕ, _<_}
 use borrow.Author.Tests.{ne-eqb, eq-eqb}
-use Rattle.cubes.specs.Edges.{end-small, axis-by}
+use Rattle.cubes.specs.laws.Edges.{end-small, axis-by}
 use borrow.Author.Needs.{needs}
 use Rattle.cubes.proofs.cube.axis_of.Statement.{statement}
 use Rattle.cubes.proofs.cube.axis_of.Tie as tie

@@ -4,7 +4,7 @@ use mathlib.Core.Path.{sym, subst}
 use Prim.Native.Nat.{ℕ, _<_}
 use native.Mathlib.Omega.{arith}
 use borrow.Author.Tests.{lt-ltb, le-ltb}
-use Rattle.cubes.specs.Edges.{end-small, axis-small, low-by}
+use Rattle.cubes.specs.laws.Edges.{end-small, axis-small, low-by}
 use borrow.Author.Needs.{needs}
 use Rattle.cubes.proofs.cube.low_of.Statement.{statement}
 use Rattle.cubes.proofs.cube.low_of.Tie as tie

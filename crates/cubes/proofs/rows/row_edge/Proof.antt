@@ -11,7 +11,7 @@ use lib.Signed.{nonNeg}
 use mir.Syntax.{w8, w64}
 use mir.Val.{Fits, toZ, ofZ}
 use Rattle.closed.specs.Rows.{row, entry}
-use Rattle.closed.specs.Entries.{row-right, entry-in}
+use Rattle.closed.specs.laws.Entries.{row-right, entry-in}
 use Rattle.cubes.proofs.Signed.{entry-back}
 use Rattle.cubes.proofs.rows.row_edge.Statement.{statement}
 use Rattle.cubes.proofs.rows.row_edge.Tie as tie

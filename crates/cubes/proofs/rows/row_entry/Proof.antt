@@ -5,7 +5,7 @@ use mathlib.Core.List.{List}
 use Prim.Native.Nat.{_+_, _*_}
 use lib.IntN.{ℤ, pos}
 use lib.ListN.{getD}
-use Rattle.closed.specs.Entries.{entry-at}
+use Rattle.closed.specs.laws.Entries.{entry-at}
 use Rattle.cubes.proofs.Signed.{entry-back}
 use borrow.Author.Needs.{needs}
 use Rattle.cubes.proofs.rows.row_entry.Statement.{statement}

@@ -2,7 +2,7 @@
 -- Assumes nothing.
 use mathlib.Core.Path.{sym}
 use native.Mathlib.Omega.{arith}
-use Rattle.closed.specs.Entries.{row-right, emitted-length, emitted-at}
+use Rattle.closed.specs.laws.Entries.{row-right, emitted-length, emitted-at}
 use Rattle.cubes.proofs.rows.row_face.Statement.{statement}
 use Rattle.cubes.proofs.rows.row_face.Tie as tie
 

@@ -6,8 +6,8 @@ use native.Mathlib.Omega.{arith}
 use borrow.Author.Tests.{leb-true, leb-false}
 use lib.ListN.{length}
 use Rattle.closed.specs.Rows.{row, emitted}
-use Rattle.closed.specs.Entries.{emitted-length}
-use Rattle.closed.specs.Bounds.{emitted-le}
+use Rattle.closed.specs.laws.Entries.{emitted-length}
+use Rattle.closed.specs.laws.Bounds.{emitted-le}
 use Rattle.cubes.proofs.Signed.{tested}
 use Rattle.cubes.proofs.rows.row_faces.Statement.{statement}
 use Rattle.cubes.proofs.rows.row_faces.Tie as tie

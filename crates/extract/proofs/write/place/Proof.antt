@@ -7,7 +7,7 @@ use native.Mathlib.Omega.{arith}
 use lib.Ieee.{Float, nan}
 use lib.ListN.{length, getD, set, length-set}
 use Rattle.cells.specs.Extraction.{edgePoint}
-use Rattle.extract.specs.SecondPass.{Places}
+use Rattle.extract.specs.Words.{Places}
 use Rattle.extract.proofs.Placing.{place-more, place-old, place-new, room-one, stores, point-list}
 use borrow.Author.Needs.{needs}
 use Rattle.extract.proofs.write.place.Statement.{statement}

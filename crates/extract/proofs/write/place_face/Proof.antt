@@ -1,5 +1,5 @@
--- A face's three edges lie in the table and have both their nodes (`edge-of`), and where its three vertices have room each has at its turn (`fits`): so the calls may
--- be made. What they answer, one after the other, is the face written.
+-- A face's three edges lie in the table and have both their nodes (`edge-of`), and where its three vertices have room each has at its turn (`fits`): so
+-- the calls may be made. What they answer, one after the other, is the face written.
 use mathlib.Core.Path.{_≡_, sym, ap, _∙_, subst}
 use mathlib.Core.List.{List, [], _∷_, map}
 use Prim.Native.Nat.{ℕ, _+_, _*_, _^_, _<_, _≤_}
@@ -8,8 +8,8 @@ use lib.Ieee.{Float}
 use lib.ListN.{length, getD}
 use lib.Seq.{sets}
 use Rattle.cells.specs.Extraction.{edgePoint}
-use Rattle.cells.specs.CellWords.{Inner}
-use Rattle.extract.specs.SecondPass.{Places, placeAll, vertexIn}
+use Rattle.cells.specs.Words.{Inner}
+use Rattle.extract.specs.Words.{Places, placeAll, vertexIn}
 use Rattle.extract.proofs.Placing.{place-three, Fits, fits-first, fits-rest, three-stores, three-same}
 use borrow.Author.Needs.{needs}
 use Rattle.extract.proofs.write.place_face.Statement.{statement}

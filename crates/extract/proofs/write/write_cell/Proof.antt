@@ -1,7 +1,7 @@
 -- Cases 0 and 255 have no face, so nothing is written; every other case is its row's.
 use mathlib.Core.Path.{sym}
 use Rattle.extract.proofs.Placing.{written-none, written-as}
-use Rattle.cells.specs.Rows.{none-below, all-below}
+use Rattle.cells.specs.laws.Rows.{none-below, all-below}
 use borrow.Author.Needs.{needs}
 use Rattle.extract.proofs.write.write_cell.Statement.{statement}
 use Rattle.extract.proofs.write.write_cell.Tie as tie

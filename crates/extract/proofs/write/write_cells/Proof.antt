@@ -8,12 +8,12 @@ use lib.ListN.{length}
 use Rattle.closed.specs.Faces.{Face}
 use Rattle.closed.specs.Grid.{edge}
 use Rattle.cells.specs.Extraction.{countY, countZ, edgePoint}
-use Rattle.cells.specs.CellWords.{sideAt, caseAt, rowFaces, facesAt, lineFaces}
-use Rattle.extract.specs.SecondPass.{Written}
-use Rattle.cells.specs.Cells.{case-below, two-sides}
+use Rattle.cells.specs.Words.{sideAt, caseAt, rowFaces, facesAt, lineFaces}
+use Rattle.extract.specs.Words.{Written}
+use Rattle.cells.specs.laws.Cells.{case-below, two-sides}
 use Rattle.extract.proofs.Placing.{written-as, room-as, written-start, written-more-cells, written-all, room-cell, vertices-kept, faces-kept}
 use Rattle.extract.proofs.Edges.{edges-of}
-use Rattle.cells.specs.Rows.{cell-faces}
+use Rattle.cells.specs.laws.Rows.{cell-faces}
 use borrow.Author.Needs.{needs}
 use Rattle.extract.proofs.write.write_cells.Statement.{statement}
 use Rattle.extract.proofs.write.write_cells.Tie as tie

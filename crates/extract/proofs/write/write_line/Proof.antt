@@ -3,7 +3,7 @@ use mathlib.Core.Path.{sym, _∙_}
 use native.Mathlib.Omega.{arith}
 use Rattle.cells.specs.Extraction.{countY, countZ}
 use Rattle.extract.proofs.Placing.{written-none, written-as}
-use Rattle.cells.specs.Plain.{plain-line}
+use Rattle.cells.specs.laws.Plain.{plain-line}
 use borrow.Author.Needs.{needs}
 use Rattle.extract.proofs.write.write_line.Statement.{statement}
 use Rattle.extract.proofs.write.write_line.Tie as tie

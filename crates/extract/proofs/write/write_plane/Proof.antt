@@ -1,5 +1,5 @@
--- After j turns the first j lines are written. The next line lies inside (`line-inside` of the crate `grid`), and where there is room for all lines there is for
--- it.
+-- After j turns the first j lines are written. The next line lies inside (`line-inside` of the crate `grid`), and where there is room for all lines there
+-- is for it.
 use mathlib.Core.Path.{sym, ap, _∙_}
 use mathlib.Core.List.{List}
 use Prim.Native.Nat.{ℕ, _+_, _-_, _*_, _<_, _≤_}
@@ -7,10 +7,10 @@ use native.Mathlib.Omega.{arith}
 use lib.ListN.{length}
 use Rattle.closed.specs.Faces.{Face}
 use Rattle.grid.specs.Grid.{lineStart}
-use Rattle.grid.specs.Rows.{counts-few, line-inside}
+use Rattle.grid.specs.laws.Rows.{counts-few, line-inside}
 use Rattle.cells.specs.Extraction.{countY, countZ, edgePoint}
-use Rattle.cells.specs.CellWords.{lineFaces, planeFaces}
-use Rattle.extract.specs.SecondPass.{Written}
+use Rattle.cells.specs.Words.{lineFaces, planeFaces}
+use Rattle.extract.specs.Words.{Written}
 use Rattle.extract.proofs.Placing.{written-as, room-as, written-start, written-more-cells, written-all, room-cell, vertices-kept, faces-kept}
 use borrow.Author.Needs.{needs}
 use Rattle.extract.proofs.write.write_plane.Statement.{statement}

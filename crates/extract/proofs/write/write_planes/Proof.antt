@@ -1,11 +1,11 @@
 -- After i turns the first i planes are written. The next plane is not the last of all, and where there is room for all planes there is for it.
 use Prim.Native.Nat.{_+_, _-_, _<_, _≤_}
 use native.Mathlib.Omega.{arith}
-use Rattle.grid.specs.Rows.{counts-few}
+use Rattle.grid.specs.laws.Rows.{counts-few}
 use Rattle.cells.specs.Extraction.{countX, countY, countZ, edgePoint}
-use Rattle.cells.specs.CellWords.{blockFaces}
-use Rattle.numbering.specs.FirstPass.{none}
-use Rattle.extract.specs.SecondPass.{Written}
+use Rattle.cells.specs.Words.{blockFaces}
+use Rattle.numbering.specs.Words.{none}
+use Rattle.extract.specs.Words.{Written}
 use Rattle.extract.proofs.Placing.{written-start, written-more-cells, written-all, room-cell, vertices-kept, faces-kept}
 use borrow.Author.Needs.{needs}
 use Rattle.extract.proofs.write.write_planes.Statement.{statement}

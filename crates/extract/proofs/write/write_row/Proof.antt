@@ -3,10 +3,10 @@ use Prim.Native.Nat.{_-_, _<_, _≤_}
 use native.Mathlib.Omega.{arith}
 use lib.ListN.{length}
 use Rattle.closed.specs.Rows.{emitted}
-use Rattle.closed.specs.Bounds.{emitted-le}
+use Rattle.closed.specs.laws.Bounds.{emitted-le}
 use Rattle.cells.specs.Extraction.{edgePoint}
-use Rattle.cells.specs.Rows.{firstFaces, all-faces, cube-face}
-use Rattle.extract.specs.SecondPass.{Written}
+use Rattle.cells.specs.laws.Rows.{firstFaces, all-faces, cube-face}
+use Rattle.extract.specs.Words.{Written}
 use Rattle.extract.proofs.Placing.{written-none, written-as, room-face, written-more-faces, vertices-kept, faces-kept}
 use Rattle.extract.proofs.write.write_row.Statement.{statement}
 use Rattle.extract.proofs.write.write_row.Tie as tie

@@ -5,7 +5,7 @@ use mathlib.Core.Bool.{Bool}
 use lib.ListN.{length}
 use denote.Ref.{now}
 use Rattle.lists.specs.Lists.{tabulate}
-use Rattle.field.specs.Inner.{rowAt}
+use Rattle.field.specs.Words.{rowAt}
 use Rattle.field.proofs.RightSide.{all-zero}
 use borrow.Author.Needs.{needs}
 use Rattle.field.proofs.divergence.any_row.Statement.{statement}

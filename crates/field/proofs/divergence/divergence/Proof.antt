@@ -7,12 +7,12 @@ use lib.ListN.{length}
 use lib.Ieee.{Float}
 use denote.Ref.{now}
 use Rattle.lists.specs.Lists.{tabulate, part}
-use Rattle.lists.specs.Fill.{Filled, filled-none, filled-done}
-use Rattle.lists.specs.Part.{length-part, filled-part}
-use Rattle.grid.specs.Rows.{row-next, square-most, inner-row}
-use Rattle.blur.specs.Within.{Within, within-cube}
+use Rattle.lists.specs.laws.Fill.{Filled, filled-none, filled-done}
+use Rattle.lists.specs.laws.Part.{length-part, filled-part}
+use Rattle.grid.specs.laws.Rows.{row-next, square-most, inner-row}
+use Rattle.blur.specs.laws.Within.{Within, within-cube}
 use Rattle.field.specs.Field.{rightSideAt}
-use Rattle.field.specs.Inner.{rowAt}
+use Rattle.field.specs.Words.{rowAt}
 use Rattle.field.proofs.RightSide.{row-at}
 use borrow.Author.Needs.{needs}
 use native.Mathlib.Omega.{arith}

@@ -6,10 +6,10 @@ use Prim.Native.Nat.{ℕ, _≤_, _-_, _+_}
 use lib.ListN.{length, take, set, length-set}
 use denote.Ref.{now}
 use Rattle.lists.specs.Lists.{tabulate, zero32}
-use Rattle.lists.specs.Prefix.{prefix-none, prefix-more, prefix-done}
+use Rattle.lists.specs.laws.Prefix.{prefix-none, prefix-more, prefix-done}
 use Rattle.grid.specs.Grid.{atEnd}
-use Rattle.grid.specs.Rows.{first-end, last-end, row-plane}
-use Rattle.field.specs.Inner.{rowAt}
+use Rattle.grid.specs.laws.Rows.{first-end, last-end, row-plane}
+use Rattle.field.specs.Words.{rowAt}
 use Rattle.field.proofs.RightSide.{at-ends, between}
 use native.Mathlib.Omega.{arith}
 use Rattle.field.proofs.divergence.inner_row.Statement.{statement}

@@ -3,8 +3,8 @@
 use Prim.Native.Nat.{_<_, _≤_}
 use lib.ListN.{length}
 use denote.Ref.{now}
-use Rattle.grid.specs.Rows.{cube-most}
-use Rattle.grid.specs.Cells.{corner-below}
+use Rattle.grid.specs.laws.Rows.{cube-most}
+use Rattle.grid.specs.laws.Cells.{corner-below}
 use Rattle.field.specs.Field.{cornerAdded}
 use borrow.Author.Needs.{needs}
 use native.Mathlib.Omega.{arith}

@@ -2,13 +2,13 @@
 -- Assumes nothing.
 use mathlib.Core.Path.{_≡_, refl, sym, ap, _∙_, subst}
 use mathlib.Core.List.{List}
-use Prim.Native.Nat.{_-_, _*_}
+use Prim.Native.Nat.{_-_}
 use lib.ListN.{length, length-replicate}
 use lib.Ieee.{Float}
 use denote.Ref.{now}
 use Rattle.lists.specs.Lists.{zeros32}
 use Rattle.points.specs.Points.{usableOf}
-use Rattle.points.specs.UsableLoop.{FoldedUsable, folded-none, folded-more, folded-done}
+use Rattle.points.specs.laws.UsableLoop.{FoldedUsable, folded-none, folded-more, folded-done}
 use Rattle.field.specs.Field.{pointAdded, splatted}
 use Rattle.field.proofs.Corners.{length-usable}
 use borrow.Author.Needs.{needs}

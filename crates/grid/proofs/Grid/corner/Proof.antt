@@ -2,7 +2,7 @@
 use mathlib.Core.Path.{_∙_}
 use native.Mathlib.Omega.{arith}
 use Rattle.grid.specs.Grid.{cellCorner}
-use Rattle.grid.specs.Cells.{corner-in}
+use Rattle.grid.specs.laws.Cells.{corner-in}
 use borrow.Author.Needs.{needs}
 use Rattle.grid.proofs.Grid.corner.Statement.{statement}
 use Rattle.grid.proofs.Grid.corner.Tie as tie

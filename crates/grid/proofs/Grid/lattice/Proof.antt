@@ -1,7 +1,7 @@
 -- `grid::Grid::lattice` meets its contract: it is the definition, and a cube's counts are within the bounds. Assumes nothing.
 use mathlib.Core.Path.{refl}
 use Rattle.grid.specs.Grid.{latticeOf}
-use Rattle.grid.specs.Rows.{cube-counts}
+use Rattle.grid.specs.laws.Rows.{cube-counts}
 use Rattle.grid.proofs.Grid.lattice.Statement.{statement}
 use Rattle.grid.proofs.Grid.lattice.Tie as tie
 

@@ -1,6 +1,6 @@
 -- `grid::Grid::len` meets its contract: the cube has at most 256^3 nodes. Assumes nothing.
 use native.Mathlib.Omega.{arith}
-use Rattle.grid.specs.Rows.{square-most, cube-most}
+use Rattle.grid.specs.laws.Rows.{square-most, cube-most}
 use borrow.Author.Needs.{needs}
 use Rattle.grid.proofs.Grid.len.Statement.{statement}
 use Rattle.grid.proofs.Grid.len.Tie as tie

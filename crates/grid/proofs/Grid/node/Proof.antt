@@ -1,8 +1,8 @@
 -- `grid::Grid::node` meets its contract: the node lies in the cube, which has at most 256^3. Assumes nothing.
 use native.Mathlib.Nat.{lt-of-lt-of-le}
 use native.Mathlib.Omega.{arith}
-use Rattle.grid.specs.Numbering.{node-below}
-use Rattle.grid.specs.Rows.{cube-most}
+use Rattle.grid.specs.laws.Numbering.{node-below}
+use Rattle.grid.specs.laws.Rows.{cube-most}
 use borrow.Author.Needs.{needs}
 use Rattle.grid.proofs.Grid.node.Statement.{statement}
 use Rattle.grid.proofs.Grid.node.Tie as tie

@@ -1,6 +1,6 @@
 -- `grid::Grid::row_start` meets its contract: a row ends in the cube, which has at most 256^3 nodes. Assumes nothing.
 use native.Mathlib.Omega.{arith}
-use Rattle.grid.specs.Rows.{row-end, cube-most}
+use Rattle.grid.specs.laws.Rows.{row-end, cube-most}
 use borrow.Author.Needs.{needs}
 use Rattle.grid.proofs.Grid.row_start.Statement.{statement}
 use Rattle.grid.proofs.Grid.row_start.Tie as tie

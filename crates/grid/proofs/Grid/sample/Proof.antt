@@ -7,8 +7,8 @@ use lib.ListN.{length}
 use denote.Ref.{now}
 use borrow.Author.Needs.{needs}
 use Rattle.grid.specs.Grid.{sumTo, sampled}
-use Rattle.grid.specs.Cells.{corner-below}
-use Rattle.grid.specs.Rows.{cube-most}
+use Rattle.grid.specs.laws.Cells.{corner-below}
+use Rattle.grid.specs.laws.Rows.{cube-most}
 use Rattle.grid.proofs.Grid.sample.Statement.{statement}
 use Rattle.grid.proofs.Grid.sample.Tie as tie
 

@@ -1,7 +1,7 @@
 -- `grid::Lattice::line_start` meets its contract: it is the node at (i, j, 0), found from the start of its line (`line-node`). Assumes nothing.
 use mathlib.Core.Path.{_∙_}
 use native.Mathlib.Nat.{add-zero}
-use Rattle.grid.specs.Numbering.{line-node}
+use Rattle.grid.specs.laws.Numbering.{line-node}
 use borrow.Author.Needs.{needs}
 use Rattle.grid.proofs.Lattice.line_start.Statement.{statement}
 use Rattle.grid.proofs.Lattice.line_start.Tie as tie

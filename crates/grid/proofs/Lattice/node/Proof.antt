@@ -1,7 +1,7 @@
 -- `grid::Lattice::node` meets its contract: the node lies in the block, which has at most 256^3. Assumes nothing.
 use native.Mathlib.Nat.{lt-of-lt-of-le}
 use native.Mathlib.Omega.{arith}
-use Rattle.grid.specs.Numbering.{node-below}
+use Rattle.grid.specs.laws.Numbering.{node-below}
 use borrow.Author.Needs.{needs}
 use Rattle.grid.proofs.Lattice.node.Statement.{statement}
 use Rattle.grid.proofs.Lattice.node.Tie as tie

@@ -6,7 +6,7 @@ use lib.ListN.{length, take}
 use denote.Ref.{now}
 use Rattle.points.specs.Points.{usables}
 use Rattle.levels.specs.Levels.{nodesAt, risen}
-use Rattle.levels.specs.Slices.{LevelSlices}
+use Rattle.levels.specs.Words.{LevelSlices}
 use Rattle.levels.proofs.Fronts.{nodes-mono}
 use Rattle.levels.proofs.OneAfterOther.{sized-by, rise-more, rise-done}
 use Rattle.levels.proofs.rising.rise.Statement.{statement}

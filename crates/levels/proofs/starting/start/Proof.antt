@@ -3,7 +3,7 @@ use mathlib.Core.Path.{_∙_}
 use Prim.Native.Nat.{_-_}
 use native.Mathlib.Omega.{arith}
 use lib.ListN.{length}
-use Rattle.lists.specs.Fill.{Filled, filled-none, filled-more, filled-done}
+use Rattle.lists.specs.laws.Fill.{Filled, filled-none, filled-more, filled-done}
 use Rattle.levels.specs.Levels.{startAt}
 use borrow.Author.Needs.{needs}
 use Rattle.levels.proofs.starting.start.Statement.{statement}

@@ -1,6 +1,6 @@
 -- `levels::start_at` meets its contract: the position of the node is in the cube, and its place there is what is sampled. Assumes nothing.
 use mathlib.Core.Path.{sym, _∙_}
-use Rattle.grid.specs.Numbering.{coords-below}
+use Rattle.grid.specs.laws.Numbering.{coords-below}
 use Rattle.levels.specs.Levels.{startAt}
 use borrow.Author.Needs.{needs}
 use Rattle.levels.proofs.starting.start_at.Statement.{statement}

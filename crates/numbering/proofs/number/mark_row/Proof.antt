@@ -6,12 +6,12 @@ use native.Mathlib.Omega.{arith}
 use lib.ListN.{getD, length}
 use Rattle.closed.specs.Faces.{Face, face, mapFace, corners}
 use Rattle.closed.specs.Rows.{emitted}
-use Rattle.closed.specs.Bounds.{emitted-le}
-use Rattle.closed.specs.Turning.{corners-append, length-corners}
-use Rattle.cells.specs.CellWords.{EdgesIn}
-use Rattle.numbering.specs.FirstPass.{Marks, markAll}
+use Rattle.closed.specs.laws.Bounds.{emitted-le}
+use Rattle.closed.specs.laws.Turning.{corners-append, length-corners}
+use Rattle.cells.specs.Words.{EdgesIn}
+use Rattle.numbering.specs.Words.{Marks, markAll}
 use Rattle.numbering.proofs.Marking.{marks-append, marks-kept, marks-more}
-use Rattle.cells.specs.Rows.{firstFaces, one-more, all-faces, cube-face}
+use Rattle.cells.specs.laws.Rows.{firstFaces, one-more, all-faces, cube-face}
 use Rattle.numbering.proofs.number.mark_row.Statement.{statement}
 use Rattle.numbering.proofs.number.mark_row.Tie as tie
 

@@ -3,9 +3,9 @@ use mathlib.Core.Path.{sym, _∙_, ap}
 use Prim.Native.Nat.{ℕ, _+_, _≤_}
 use native.Mathlib.Omega.{arith}
 use mir.Facts.{fits-le, fits-lit}
-use Rattle.closed.specs.Bounds.{emitted-le}
+use Rattle.closed.specs.laws.Bounds.{emitted-le}
 use Rattle.numbering.proofs.Marking.{numbered-none, numbered-as}
-use Rattle.cells.specs.Rows.{none-below, all-below, row-count}
+use Rattle.cells.specs.laws.Rows.{none-below, all-below, row-count}
 use borrow.Author.Needs.{needs}
 use Rattle.numbering.proofs.number.number_cell.Statement.{statement}
 use Rattle.numbering.proofs.number.number_cell.Tie as tie

@@ -1,5 +1,5 @@
--- After k turns the first k cells are numbered, and the near side of the next is at hand. What is read of that cell is its case and its first edge, so its row's
--- faces are its own (`its-faces`), five at most.
+-- After k turns the first k cells are numbered, and the near side of the next is at hand. What is read of that cell is its case and its first edge, so
+-- its row's faces are its own (`its-faces`), five at most.
 use mathlib.Core.Path.{_≡_, sym, subst, _∙_, ap}
 use mathlib.Core.List.{List}
 use Prim.Native.Nat.{ℕ, _+_, _-_, _*_, _<_, _≤_}
@@ -7,11 +7,11 @@ use native.Mathlib.Omega.{arith}
 use lib.ListN.{length}
 use Rattle.closed.specs.Grid.{edge}
 use Rattle.closed.specs.Faces.{Face}
-use Rattle.cells.specs.CellWords.{sideAt, caseAt, rowFaces, facesAt, lineFaces}
-use Rattle.numbering.specs.FirstPass.{Numbered, Few}
-use Rattle.cells.specs.Cells.{case-below, two-sides}
+use Rattle.cells.specs.Words.{sideAt, caseAt, rowFaces, facesAt, lineFaces}
+use Rattle.numbering.specs.Words.{Numbered, Few}
+use Rattle.cells.specs.laws.Cells.{case-below, two-sides}
 use Rattle.numbering.proofs.Marking.{numbered-as, numbered-start, numbered-more-cells, numbered-all, numbered-kept, few-next, few-later}
-use Rattle.cells.specs.Rows.{edges-in, cell-faces, few-cell}
+use Rattle.cells.specs.laws.Rows.{edges-in, cell-faces, few-cell}
 use Rattle.numbering.proofs.number.number_cells.Statement.{statement}
 use Rattle.numbering.proofs.number.number_cells.Tie as tie
 

@@ -4,8 +4,8 @@ use mathlib.Core.List.{List}
 use Prim.Native.Nat.{ℕ, _-_}
 use lib.ListN.{length, length-replicate}
 use Rattle.cells.specs.Extraction.{countX, countY, countZ}
-use Rattle.cells.specs.CellWords.{blockFaces}
-use Rattle.numbering.specs.FirstPass.{Numbered, none}
+use Rattle.cells.specs.Words.{blockFaces}
+use Rattle.numbering.specs.Words.{Numbered, none}
 use Rattle.numbering.proofs.FirstUse.{counted-all}
 use borrow.Author.Needs.{needs}
 use Rattle.numbering.proofs.number.number_edges.Statement.{statement}

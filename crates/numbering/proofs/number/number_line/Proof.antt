@@ -2,7 +2,7 @@
 use mathlib.Core.Path.{sym, _∙_}
 use native.Mathlib.Omega.{arith}
 use Rattle.numbering.proofs.Marking.{numbered-none, numbered-as, few-later}
-use Rattle.cells.specs.Plain.{plain-line}
+use Rattle.cells.specs.laws.Plain.{plain-line}
 use borrow.Author.Needs.{needs}
 use Rattle.numbering.proofs.number.number_line.Statement.{statement}
 use Rattle.numbering.proofs.number.number_line.Tie as tie

@@ -7,10 +7,10 @@ use native.Mathlib.Omega.{arith}
 use lib.ListN.{length}
 use Rattle.closed.specs.Faces.{Face}
 use Rattle.grid.specs.Grid.{lineStart}
-use Rattle.grid.specs.Rows.{counts-few, line-inside}
+use Rattle.grid.specs.laws.Rows.{counts-few, line-inside}
 use Rattle.cells.specs.Extraction.{countY, countZ}
-use Rattle.cells.specs.CellWords.{lineFaces, planeFaces}
-use Rattle.numbering.specs.FirstPass.{Numbered, Few}
+use Rattle.cells.specs.Words.{lineFaces, planeFaces}
+use Rattle.numbering.specs.Words.{Numbered, Few}
 use Rattle.numbering.proofs.Marking.{numbered-as, numbered-start, numbered-more-cells, numbered-all, numbered-kept, few-later}
 use borrow.Author.Needs.{needs}
 use Rattle.numbering.proofs.number.number_plane.Statement.{statement}

@@ -3,10 +3,10 @@ use mathlib.Core.Path.{_∙_}
 use Prim.Native.Nat.{_+_, _-_, _≤_}
 use native.Mathlib.Omega.{arith}
 use Rattle.grid.specs.Grid.{planeStart}
-use Rattle.grid.specs.Rows.{counts-few}
+use Rattle.grid.specs.laws.Rows.{counts-few}
 use Rattle.cells.specs.Extraction.{countX, countY, countZ}
-use Rattle.cells.specs.CellWords.{blockFaces}
-use Rattle.numbering.specs.FirstPass.{Numbered, Few, none}
+use Rattle.cells.specs.Words.{blockFaces}
+use Rattle.numbering.specs.Words.{Numbered, Few, none}
 use Rattle.numbering.proofs.Marking.{numbered-start, numbered-more-cells, numbered-all, numbered-kept}
 use borrow.Author.Needs.{needs}
 use Rattle.numbering.proofs.number.number_planes.Statement.{statement}

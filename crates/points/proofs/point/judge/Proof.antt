@@ -1,6 +1,6 @@
 -- `points::point::judge` meets its contract: the definition makes the same two tests. Assumes nothing.
 use mathlib.Core.Path.{sym, _∙_}
-use Rattle.numbers.specs.ConstantValues.{trillionth-is}
+use Rattle.numbers.specs.laws.ConstantValues.{trillionth-is}
 use Rattle.points.specs.Points.{lengthUsability}
 use borrow.Author.Needs.{needs}
 use Rattle.points.proofs.point.judge.Statement.{statement}

@@ -1,5 +1,5 @@
 -- `points::point::long` meets its contract: between the bounds by `quick`, else by the root. Assumes nothing.
-use Rattle.points.specs.SquaresHeld.{squares-held}
+use Rattle.points.specs.laws.SquaresHeld.{squares-held}
 use Rattle.points.proofs.QuickLength.{quick}
 use borrow.Author.Needs.{needs}
 use Rattle.points.proofs.point.long.Statement.{statement}

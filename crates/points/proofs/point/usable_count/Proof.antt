@@ -7,7 +7,7 @@ use native.Mathlib.Omega.{arith}
 use lib.ListN.{length, length-append}
 use denote.Ref.{now}
 use Rattle.points.specs.Points.{given, usableTo}
-use Rattle.points.specs.UsableLoop.{usable-none, used, skipped, count-le}
+use Rattle.points.specs.laws.UsableLoop.{usable-none, used, skipped, count-le}
 use borrow.Author.Needs.{needs}
 use Rattle.points.proofs.point.usable_count.Statement.{statement}
 use Rattle.points.proofs.point.usable_count.Tie as tie

@@ -11,9 +11,9 @@ use Rattle.search.specs.declared.brute.Least.{Least}
 use Rattle.search.specs.declared.brute.Least.the-variants.{Empty}
 use Rattle.points.specs.Points.{given, usableOf, usables}
 use Rattle.search.specs.Search.{squareOf}
-use Rattle.search.specs.Inner.{leastWith, leastMap}
-use Rattle.points.specs.UsableLoop.{FoldedUsable, folded-none, folded-more, folded-done}
-use Rattle.points.specs.UsableFinite.{all-usable}
+use Rattle.search.specs.Words.{leastWith, leastMap}
+use Rattle.points.specs.laws.UsableLoop.{FoldedUsable, folded-none, folded-more, folded-done}
+use Rattle.points.specs.laws.UsableFinite.{all-usable}
 use Rattle.search.proofs.NearestRoots.{nearest-root}
 use borrow.Author.Needs.{needs}
 use Rattle.search.proofs.brute.nearest.Statement.{statement}

@@ -9,7 +9,7 @@ use denote.Ref.{now}
 use Rattle.points.specs.Points.{given, usableTo, usables}
 use Rattle.search.specs.Search.{sorted}
 use Rattle.search.specs.Spacing.{gapsBy}
-use Rattle.points.specs.UsableLoop.{count-le}
+use Rattle.points.specs.laws.UsableLoop.{count-le}
 use Rattle.search.proofs.Gaps.{Gathered, gathered-none, gathered-used, gathered-skipped}
 use borrow.Author.Needs.{needs}
 use Rattle.search.proofs.neighbours.gaps.Statement.{statement}

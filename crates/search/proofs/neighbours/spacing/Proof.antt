@@ -1,6 +1,6 @@
 -- `search::spacing` meets its contract: the larger of the median and its floor, and the list cleared. Assumes nothing.
 use mathlib.Core.Path.{_∙_, ap}
-use Rattle.numbers.specs.ConstantValues.{millionth-is}
+use Rattle.numbers.specs.laws.ConstantValues.{millionth-is}
 use Rattle.search.specs.Spacing.{spacingOf}
 use Rattle.lists.specs.Lists.{zeros32}
 use borrow.Author.Needs.{needs}

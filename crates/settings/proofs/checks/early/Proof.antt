@@ -7,7 +7,7 @@ use denote.Ref.{now}
 use Rattle.settings.specs.declared.Settings.{Settings}
 use Rattle.settings.specs.declared.Verdict.{Verdict}
 use Rattle.settings.specs.Refusals.{_then_, pointSliceVerdict, noPointsVerdict, depthVerdict, scratchVerdict}
-use Rattle.settings.specs.Passed.{depth-fits}
+use Rattle.settings.specs.laws.Passed.{depth-fits}
 use Rattle.settings.proofs.Verdicts.{stops, goes-on}
 use borrow.Author.Needs.{needs}
 use Rattle.settings.proofs.checks.early.Statement.{statement}

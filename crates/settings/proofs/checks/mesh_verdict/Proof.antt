@@ -1,5 +1,5 @@
 -- The verdict is its line of the column: each return rewrites with the tests that led there.
-use borrow.Author.Tests.{le-ltb, lt-ltb, eq-eqb, ne-eqb}
+use borrow.Author.Tests.{eq-eqb, ne-eqb}
 use Rattle.settings.specs.Refusals.{meshVerdict}
 use Rattle.settings.proofs.checks.mesh_verdict.Statement.{statement}
 use Rattle.settings.proofs.checks.mesh_verdict.Tie as tie

@@ -4,7 +4,7 @@ use mathlib.Core.Path.{_≡_, refl, _∙_, ap, sym}
 use native.Mathlib.Omega.{arith}
 use native.Mathlib.Nat.{one-mul, pow-succ', pow-le-pow-right}
 use lib.Pow.{shl-exact, pow-add}
-use lib.Dec.{lit<, lit≤}
+use lib.Dec.{lit<}
 use borrow.Author.Needs.{needs}
 use Rattle.settings.proofs.checks.nodes.Statement.{statement}
 use Rattle.settings.proofs.checks.nodes.Tie as tie

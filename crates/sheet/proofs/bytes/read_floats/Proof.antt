@@ -1,9 +1,9 @@
 -- A loop that writes place by place: the invariant is `Filled` of the crate `lists`.
-use Prim.Native.Nat.{ℕ, _-_, _<_, _≤_}
-use mathlib.Core.Path.{_≡_, refl, sym, ap, _∙_}
+use Prim.Native.Nat.{_-_}
+use mathlib.Core.Path.{_≡_, refl}
 use native.Mathlib.Omega.{arith}
 use lib.ListN.{length}
-use Rattle.lists.specs.Fill.{Filled, filled-none, filled-more, filled-done}
+use Rattle.lists.specs.laws.Fill.{Filled, filled-none, filled-more, filled-done}
 use Rattle.sheet.specs.Sheet.{floatAt}
 use Rattle.sheet.proofs.bytes.read_floats.Statement.{statement}
 use Rattle.sheet.proofs.bytes.read_floats.Tie as tie

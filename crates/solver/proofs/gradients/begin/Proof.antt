@@ -1,6 +1,6 @@
 -- `solver::begin` meets its contract: what its four stages say is the start (`start-is`). Assumes nothing.
 use denote.Ref.{now}
-use Rattle.lists.specs.Tabulate.{of-size}
+use Rattle.lists.specs.laws.Tabulate.{of-size}
 use Rattle.solver.proofs.Steps.{start-is}
 use borrow.Author.Needs.{needs}
 use Rattle.solver.proofs.gradients.begin.Statement.{statement}

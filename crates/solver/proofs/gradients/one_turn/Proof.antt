@@ -1,8 +1,9 @@
--- `solver::one_turn` meets its contract: its two tests are those of `stops`, and its update is `next` (Steps); where alpha is NaN any number of further steps gives the same (NanRun). Assumes nothing.
+-- `solver::one_turn` meets its contract: its two tests are those of `stops`, and its update is `next` (Steps); where alpha is NaN any number of further
+-- steps gives the same (NanRun). Assumes nothing.
 use mathlib.Core.Path.{_≡_, sym, ap, _∙_}
 use mathlib.Core.Bool.{true, false}
 use denote.Ref.{now}
-use Rattle.numbers.specs.NanTest.{differs}
+use Rattle.numbers.specs.laws.NanTest.{differs}
 use Rattle.solver.specs.Solver.{State, stops, alphaOf, next}
 use Rattle.solver.proofs.Steps.{some-node, steps-stop, low-stops, pap-stops, alpha-is, step-is, nan-done}
 use borrow.Author.Needs.{needs}

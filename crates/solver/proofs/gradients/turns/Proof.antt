@@ -1,9 +1,10 @@
--- `solver::turns` meets its contract: after i turns the steps that are left, from the present state, are the steps from the first; a turn keeps the lengths (`sized`). Assumes nothing.
+-- `solver::turns` meets its contract: after i turns the steps that are left, from the present state, are the steps from the first; a turn keeps the
+-- lengths (`sized`). Assumes nothing.
 use mathlib.Core.Path.{_≡_, sym, ap, _∙_}
 use Prim.Native.Nat.{_-_, _≤_}
 use native.Mathlib.Omega.{arith}
 use Rattle.solver.specs.Solver.{State, steps}
-use Rattle.vectors.specs.Slices.{NodeSlices}
+use Rattle.vectors.specs.Words.{NodeSlices}
 use Rattle.solver.proofs.Steps.{turns-done, turns-on, turns-end}
 use borrow.Author.Needs.{needs}
 use Rattle.solver.proofs.gradients.turns.Statement.{statement}

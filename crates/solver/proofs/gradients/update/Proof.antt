@@ -1,5 +1,5 @@
 -- `solver::update` meets its contract: each part is what its stage says. Assumes nothing.
-use Rattle.lists.specs.Tabulate.{of-size}
+use Rattle.lists.specs.laws.Tabulate.{of-size}
 use borrow.Author.Needs.{needs}
 use Rattle.solver.proofs.gradients.update.Statement.{statement}
 use Rattle.solver.proofs.gradients.update.Tie as tie

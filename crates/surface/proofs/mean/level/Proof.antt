@@ -11,7 +11,7 @@ use borrow.Author.Needs.{needs}
 use Rattle.numbers.specs.Constants.{minusZero64}
 use Rattle.grid.specs.Grid.{sampled}
 use Rattle.points.specs.Points.{given, usables}
-use Rattle.points.specs.UsableLoop.{FoldedUsable, folded-none, folded-used, folded-skipped, folded-done, count-le}
+use Rattle.points.specs.laws.UsableLoop.{FoldedUsable, folded-none, folded-used, folded-skipped, folded-done, count-le}
 use Rattle.surface.specs.Surface.{plusSample, levelOf}
 use Rattle.surface.proofs.mean.level.Statement.{statement}
 use Rattle.surface.proofs.mean.level.Tie as tie

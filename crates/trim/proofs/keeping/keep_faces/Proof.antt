@@ -8,7 +8,7 @@ use denote.Ref.{now}
 use lib.ListN.{length}
 use Rattle.closed.specs.Faces as Flat
 use Rattle.points.specs.Points.{usables}
-use Rattle.meshes.specs.FlatFaces.{meshed-face}
+use Rattle.meshes.specs.laws.FlatFaces.{meshed-face}
 use Rattle.trim.specs.Trim.{near}
 use Rattle.trim.proofs.KeptFront.{Kept, kept-none, kept-corners, kept-dropped, kept-more, kept-done}
 use Rattle.trim.proofs.keeping.keep_faces.Statement.{statement}

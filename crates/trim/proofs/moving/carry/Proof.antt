@@ -4,7 +4,7 @@ use Prim.Native.Nat.{ℕ}
 use native.Mathlib.Omega.{arith}
 use denote.Ref.{now}
 use lib.ListN.{set}
-use Rattle.trim.specs.Passes.{lines}
+use Rattle.trim.specs.Words.{lines}
 use Rattle.trim.proofs.OneAxis.{carried-some}
 use borrow.Author.Needs.{needs}
 use Rattle.trim.proofs.moving.carry.Statement.{statement}

@@ -1,4 +1,5 @@
--- `trim::moving::gather` meets its contract: before vertex v the coordinates of the vertices before it are carried (`sent`), and the turn carries one more (`one-more`). Assumes nothing.
+-- `trim::moving::gather` meets its contract: before vertex v the coordinates of the vertices before it are carried (`sent`), and the turn carries one
+-- more (`one-more`). Assumes nothing.
 use mathlib.Core.List.{List}
 use mathlib.Core.Path.{_≡_, refl, sym, ap, _∙_}
 use Prim.Native.Nat.{ℕ, _+_, _-_, _*_, _≤_}
@@ -8,7 +9,7 @@ use denote.Ref.{now}
 use lib.ListN.{length, getD}
 use lib.Ieee.{Float}
 use Rattle.meshes.specs.FlatMesh.{vertexCount, coordinate}
-use Rattle.trim.specs.Passes.{lines, Even, carried, gathered}
+use Rattle.trim.specs.Words.{lines, Even, carried, gathered}
 use Rattle.trim.proofs.moving.gather.Statement.{statement}
 use Rattle.trim.proofs.moving.gather.Tie as tie
 

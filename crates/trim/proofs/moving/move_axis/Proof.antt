@@ -3,7 +3,7 @@ use mathlib.Core.Path.{ap, _∙_}
 use mathlib.Core.List.{List}
 use lib.Ieee.{Float}
 use denote.Ref.{now}
-use Rattle.trim.specs.Passes.{scattered}
+use Rattle.trim.specs.Words.{scattered}
 use borrow.Author.Needs.{needs}
 use Rattle.trim.proofs.moving.move_axis.Statement.{statement}
 use Rattle.trim.proofs.moving.move_axis.Tie as tie

@@ -1,4 +1,5 @@
--- `trim::moving::move_vertices` meets its contract: one axis after the other (`three-axes`); each call leaves the lengths as they are (`Same`), so the next finds what it asks. Assumes nothing.
+-- `trim::moving::move_vertices` meets its contract: one axis after the other (`three-axes`); each call leaves the lengths as they are (`Same`), so the
+-- next finds what it asks. Assumes nothing.
 use mathlib.Core.Path.{_≡_, refl, ap, _∙_}
 use mathlib.Core.List.{List}
 use Prim.Native.Nat.{ℕ, _*_, _/_, _≤_, _<_}
@@ -7,7 +8,7 @@ use lib.ListN.{length}
 use lib.Ieee.{Float}
 use denote.Ref.{now}
 use Rattle.meshes.specs.FlatMesh.{vertexCount}
-use Rattle.trim.specs.Passes.{lines, Even, Lists}
+use Rattle.trim.specs.Words.{lines, Even, Lists}
 use Rattle.trim.proofs.Lines.{length-lines}
 use Rattle.trim.proofs.Places.{three-axes}
 use borrow.Author.Needs.{needs}

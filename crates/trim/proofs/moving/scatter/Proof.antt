@@ -5,7 +5,7 @@ use native.Mathlib.Numerals.{add-one}
 use native.Mathlib.Omega.{arith}
 use denote.Ref.{now}
 use lib.ListN.{length}
-use Rattle.trim.specs.Passes.{lines, scattered}
+use Rattle.trim.specs.Words.{lines, scattered}
 use Rattle.trim.proofs.OneAxis.{length-scattered}
 use borrow.Author.Needs.{needs}
 use Rattle.trim.proofs.moving.scatter.Statement.{statement}

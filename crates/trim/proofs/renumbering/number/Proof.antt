@@ -1,5 +1,5 @@
--- `trim::renumbering::number` meets its contract: before face t the table holds what the first t faces use, and they are renumbered (`Numbering`). The face that is read has room (`inside`) and
--- its corners have entries (`known`). Assumes nothing.
+-- `trim::renumbering::number` meets its contract: before face t the table holds what the first t faces use, and they are renumbered (`Numbering`). The
+-- face that is read has room (`inside`) and its corners have entries (`known`). Assumes nothing.
 use mathlib.Core.Path.{_≡_, refl, sym, _∙_, subst}
 use Prim.Native.Nat.{_+_, _-_, _*_, _<_}
 use native.Mathlib.Omega.{arith}

@@ -6,8 +6,8 @@ use Prim.Native.Nat.{ℕ, _≤_, _-_}
 use lib.ListN.{length, length-set, length-replicate}
 use lib.Ieee.{Float}
 use Rattle.lists.specs.Lists.{tabulate, padded, zero32}
-use Rattle.lists.specs.Tabulate.{length-tabulate, tabulate-snoc}
-use Rattle.lists.specs.Padded.{padded-none, padded-more}
+use Rattle.lists.specs.laws.Tabulate.{length-tabulate, tabulate-snoc}
+use Rattle.lists.specs.laws.Padded.{padded-none, padded-more}
 use Rattle.blur.specs.Blur.{weightOf, reachOf, offsetCount, kernelOf}
 use borrow.Author.Needs.{needs}
 use native.Mathlib.Omega.{arith}

@@ -4,9 +4,8 @@ use mathlib.Core.Logic.{⊎-elim}
 use Prim.Native.Nat.{_-_}
 use native.Mathlib.Omega.{arith}
 use lib.Ieee.{ofBits, div, neg}
-use Rattle.points.specs.Points.{given}
 use Rattle.points.specs.Box.{reached, noBounds, boundsOf}
-use Rattle.points.specs.UsableLoop.{FoldedUsable, folded-none, folded-used, folded-skipped, folded-done}
+use Rattle.points.specs.laws.UsableLoop.{FoldedUsable, folded-none, folded-used, folded-skipped, folded-done}
 use borrow.Author.Needs.{needs}
 use Rattle.points.proofs.bounds.Bounds.of.Statement.{statement}
 use Rattle.points.proofs.bounds.Bounds.of.Tie as tie

@@ -1,5 +1,5 @@
 -- `points::Bounds::side` meets its contract: the same operations on the extent. Assumes nothing.
-use Rattle.numbers.specs.ConstantValues.{tenth-is}
+use Rattle.numbers.specs.laws.ConstantValues.{tenth-is}
 use Rattle.points.specs.Box.{sideOf}
 use borrow.Author.Needs.{needs}
 use Rattle.points.proofs.bounds.Bounds.side.Statement.{statement}
