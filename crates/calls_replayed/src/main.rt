@@ -7,10 +7,10 @@ mod words;
 
 ghost use Prim.Native.Nat.{_≤_, _<_};
 ghost use lib.ListN.{length};
+use answers::Answer;
 use libc::STDIN_FILENO;
 use libc::STDOUT_FILENO;
 use replay::read_decimal;
-use settings::Answer;
 use settings::Settings;
 use tell::digest_f32;
 use tell::digest_u32;

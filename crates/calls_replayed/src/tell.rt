@@ -1,7 +1,7 @@
 // What is printed of an answer, in the words of oracle/cases.
 ghost use Prim.Native.Nat.{_≤_, _<_};
+use answers::Answer;
 use libc::STDOUT_FILENO;
-use settings::Answer;
 
 // ---- numbers
 

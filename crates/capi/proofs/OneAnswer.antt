@@ -4,7 +4,7 @@ use mathlib.Core.Path.{_≡_, refl, ap, _∙_}
 use mathlib.Core.List.{List}
 use Prim.Native.Nat.{ℕ}
 use lib.Ieee.{Float}
-use Rattle.settings.specs.declared.Answer.{Answer}
+use Rattle.answers.specs.declared.Answer.{Answer}
 use Rattle.lists.specs.OneOutcome.{OneOutcome}
 use Rattle.lists.specs.laws.OneAnswer.{same, _&_}
 use Rattle.capi.specs.Flat.{countsOf, valuesOf, AnswerTold}

@@ -9,7 +9,7 @@ use Rattle.lists.specs.Lists.{at, zero32}
 use Rattle.settings.specs.declared.Settings.{Settings}
 use Rattle.settings.specs.declared.Trimming.{Trimming}
 use Rattle.settings.specs.declared.Trimming.the-variants.{Off, Within}
-use Rattle.settings.specs.declared.Answer.{Answer}
+use Rattle.answers.specs.declared.Answer.{Answer}
 use Rattle.settings.specs.declared.Lengths.{Lengths}
 use Rattle.settings.specs.Settings.{defaults}
 use Rattle.ending.specs.Slices.{Slices, FieldSlices}

@@ -5,7 +5,7 @@ ghost use Rattle.settings.specs.Settings.{defaults};
 ghost use Rattle.scan.specs.Reconstruction.{reconstructed};
 ghost use Rattle.scan.specs.FieldAlone.{fieldResults};
 ghost use Rattle.capi.specs.Flat.{trimmingFrom, settingsFrom, countsOf, valuesOf, Told, FieldTold, defaultWords, defaultValues, defaultTolerance};
-use settings::Answer;
+use answers::Answer;
 use settings::Settings;
 use settings::Trimming;
 

@@ -16,10 +16,10 @@ use Rattle.closed.specs.Grid.{cellCase, crossedCount}
 use Rattle.cells.specs.Extraction.{belowAt}
 use Rattle.points.specs.Points.{usables}
 use Rattle.settings.specs.declared.Settings.{Settings}
-use Rattle.settings.specs.declared.Answer.{Answer}
-use Rattle.settings.specs.declared.Verdict.the-variants.{Pass}
+use Rattle.answers.specs.declared.Answer.{Answer}
+use Rattle.answers.specs.declared.Verdict.the-variants.{Pass}
 use Rattle.settings.specs.declared.Trimming.the-variants.{Off}
-use Rattle.settings.specs.Answers.{numberOf}
+use Rattle.answers.specs.Answers.{numberOf}
 use Rattle.ending.specs.Slices.{Slices}
 use Rattle.scan.specs.Reconstruction.{Results, fieldFor, levelFor, keptVertices, keptFaces, lengthsOf, verdictOf}
 use Rattle.demands.specs.Call.{Meets}

@@ -14,10 +14,10 @@ use Rattle.closed.specs.Lists.{In, member}
 use Rattle.closed.specs.Faces.{corners}
 use Rattle.points.specs.Points.{usables}
 use Rattle.settings.specs.declared.Settings.{Settings}
-use Rattle.settings.specs.declared.Answer.{Answer}
-use Rattle.settings.specs.declared.Verdict.{Verdict}
-use Rattle.settings.specs.declared.Verdict.the-variants.{Pass, PointSlice, NoPoints, Depth, Smoothing, ScratchRoom, TooFew, Flat, VertexRoom, FaceRoom, NoFace}
-use Rattle.settings.specs.Answers.{numberOf, accepts, refused}
+use Rattle.answers.specs.declared.Answer.{Answer}
+use Rattle.answers.specs.declared.Verdict.{Verdict}
+use Rattle.answers.specs.declared.Verdict.the-variants.{Pass, PointSlice, NoPoints, Depth, Smoothing, ScratchRoom, TooFew, Flat, VertexRoom, FaceRoom, NoFace}
+use Rattle.answers.specs.Answers.{numberOf, accepts, refused}
 use Rattle.ending.specs.Slices.{Slices}
 use Rattle.scan.specs.Reconstruction.{keptVertices, keptFaces, lengthsOf, verdictOf, acceptedAnswer, reconstructed}
 use Rattle.demands.specs.Call.{Meets}

@@ -9,11 +9,11 @@ use Rattle.closed.specs.Faces.{corners}
 use Rattle.points.specs.declared.point.Point.{Point}
 use Rattle.points.specs.Points.{usables}
 use Rattle.settings.specs.declared.Settings.{Settings}
-use Rattle.settings.specs.declared.Answer.{Answer}
-use Rattle.settings.specs.declared.Verdict.{Verdict}
-use Rattle.settings.specs.declared.Verdict.the-variants.{Pass}
-use Rattle.settings.specs.Answers.{numberOf}
-use Rattle.settings.specs.laws.Passed.{passed, number-under}
+use Rattle.answers.specs.declared.Answer.{Answer}
+use Rattle.answers.specs.declared.Verdict.{Verdict}
+use Rattle.answers.specs.declared.Verdict.the-variants.{Pass}
+use Rattle.answers.specs.Answers.{numberOf}
+use Rattle.answers.specs.laws.InARow.{passed, number-under}
 use Rattle.ending.specs.Slices.{Slices, FieldSlices}
 use Rattle.scan.specs.Reconstruction.{Results, keptVertices, keptFaces, lengthsOf, verdictOf, acceptedAnswer, resultsUnder, reconstructed}
 use Rattle.scan.specs.FieldAlone.{FieldResults, fieldLengths, fieldVerdict, fieldAnswer, fieldUnder, fieldResults}

@@ -14,10 +14,11 @@ use Rattle.closed.specs.Grid.{node}
 use Rattle.closed.specs.laws.Crossings.{node-lt}
 use Rattle.points.specs.Points.{usables}
 use Rattle.settings.specs.declared.Settings.{Settings}
-use Rattle.settings.specs.declared.Answer.{Answer}
+use Rattle.answers.specs.declared.Answer.{Answer}
 use Rattle.settings.specs.declared.Trimming.the-variants.{Off}
 use Rattle.settings.specs.Refusals.{earlyVerdict}
-use Rattle.settings.specs.laws.Passed.{both-pass, ChecksPassed, ready}
+use Rattle.answers.specs.laws.InARow.{both-pass}
+use Rattle.settings.specs.laws.Passed.{ChecksPassed, ready}
 use Rattle.ending.specs.Slices.{Slices}
 use Rattle.scan.specs.Reconstruction.{fieldFor, keptVertices, keptFaces, lengthsOf, verdictOf, acceptedAnswer}
 use Rattle.scan.specs.laws.FieldLength.{cubed, field-length}

@@ -6,11 +6,11 @@ use lib.ListN.{length}
 use lib.Ieee.{Float, nan}
 use Rattle.points.specs.Points.{usables}
 use Rattle.settings.specs.declared.Settings.{Settings}
-use Rattle.settings.specs.declared.Answer.{Answer}
-use Rattle.settings.specs.declared.Verdict.{Verdict}
-use Rattle.settings.specs.declared.Verdict.the-variants.{Pass}
-use Rattle.settings.specs.Answers.{numberOf}
-use Rattle.settings.specs.Refusals.{_then_, earlyVerdict, usableVerdict, extentVerdict}
+use Rattle.answers.specs.declared.Answer.{Answer}
+use Rattle.answers.specs.declared.Verdict.{Verdict}
+use Rattle.answers.specs.declared.Verdict.the-variants.{Pass}
+use Rattle.answers.specs.Answers.{numberOf, _then_}
+use Rattle.settings.specs.Refusals.{earlyVerdict, usableVerdict, extentVerdict}
 use Rattle.ending.specs.Slices.{Slices}
 use Rattle.scan.specs.Reconstruction.{extentFor, lengthsOf, lateVerdict}
 use Rattle.scan.specs.laws.NanOffset.{nan-offset-no-face}

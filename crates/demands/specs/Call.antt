@@ -3,7 +3,7 @@
 use mathlib.Core.List.{List}
 use lib.Ieee.{Float}
 use Rattle.settings.specs.declared.Settings.{Settings}
-use Rattle.settings.specs.declared.Answer.{Answer}
+use Rattle.answers.specs.declared.Answer.{Answer}
 use Rattle.ending.specs.Slices.{Slices, FieldSlices}
 use Rattle.scan.specs.Reconstruction.{reconstructed}
 use Rattle.scan.specs.FieldAlone.{fieldResults}

@@ -9,7 +9,7 @@ use Prim.Native.Nat.{ℕ}
 use lib.ListN.{length}
 use Rattle.lists.specs.Lists.{zero32, zeros32, zerosU}
 use Rattle.closed.specs.Lists.{In}
-use Rattle.settings.specs.declared.Answer.{Answer}
+use Rattle.answers.specs.declared.Answer.{Answer}
 use Rattle.ending.specs.Slices.{Slices}
 use Rattle.ending.specs.Ending.{Cleared}
 

@@ -12,8 +12,8 @@ use Rattle.lists.specs.Lists.{zero32, padded}
 use Rattle.closed.specs.Faces.{corners}
 use Rattle.points.specs.Points.{usables}
 use Rattle.settings.specs.declared.Settings.{Settings}
-use Rattle.settings.specs.declared.Answer.{Answer}
-use Rattle.settings.specs.Answers.{numberOf}
+use Rattle.answers.specs.declared.Answer.{Answer}
+use Rattle.answers.specs.Answers.{numberOf}
 use Rattle.ending.specs.Slices.{Slices, FieldSlices}
 use Rattle.scan.specs.Reconstruction.{fieldFor, levelFor, keptVertices, keptFaces, lengthsOf, verdictOf, acceptedAnswer}
 use Rattle.scan.specs.FieldAlone.{fieldLengths, fieldVerdict}

@@ -18,7 +18,7 @@ use Rattle.closed.specs.Grid.{node, cellCase, gridFaces, Crossed, crossedCount}
 use Rattle.cells.specs.Extraction.{belowAt, edgePoint, pointsOf}
 use Rattle.points.specs.Points.{usables}
 use Rattle.settings.specs.declared.Settings.{Settings}
-use Rattle.settings.specs.declared.Answer.{Answer}
+use Rattle.answers.specs.declared.Answer.{Answer}
 use Rattle.ending.specs.Slices.{Slices}
 use Rattle.scan.specs.Reconstruction.{Results, latticeFor, fieldFor}
 

@@ -15,12 +15,13 @@ use Rattle.lists.specs.laws.Padded.{cleared-padded}
 use Rattle.points.specs.Points.{usables}
 use Rattle.settings.specs.declared.Settings.{Settings}
 use Rattle.settings.specs.declared.Lengths.{Lengths}
-use Rattle.settings.specs.declared.Answer.{Answer}
-use Rattle.settings.specs.declared.Verdict.{Verdict}
-use Rattle.settings.specs.declared.Verdict.the-variants.{Pass, ScratchRoom}
-use Rattle.settings.specs.Answers.{accepts, refused}
-use Rattle.settings.specs.Refusals.{_when_, _then_, earlyVerdict, usableVerdict, extentVerdict}
-use Rattle.settings.specs.laws.Passed.{both-pass, unless, ChecksPassed, ready}
+use Rattle.answers.specs.declared.Answer.{Answer}
+use Rattle.answers.specs.declared.Verdict.{Verdict}
+use Rattle.answers.specs.declared.Verdict.the-variants.{Pass, ScratchRoom}
+use Rattle.answers.specs.Answers.{accepts, refused, _when_, _then_}
+use Rattle.settings.specs.Refusals.{earlyVerdict, usableVerdict, extentVerdict}
+use Rattle.answers.specs.laws.InARow.{both-pass, unless}
+use Rattle.settings.specs.laws.Passed.{ChecksPassed, ready}
 use Rattle.scan.specs.Reconstruction.{extentFor, fieldFor}
 use Rattle.ending.specs.Slices.{FieldSlices}
 use Rattle.scan.specs.FieldAlone.{FieldResults, valuesVerdict, fieldVerdict, fieldAnswer, fieldUnder, fieldResults}

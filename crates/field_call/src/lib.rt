@@ -10,11 +10,11 @@ ghost use Rattle.scan.specs.Words.{Lent};
 ghost use Rattle.scan.specs.FieldAlone.{fieldLengths, fieldVerdict, fieldAnswer, fieldResults};
 ghost use Rattle.field_call.specs.Outcome.{FieldDone};
 ghost use Rattle.field_call.specs.Words.{FieldShown};
+use answers::Answer;
+use answers::Verdict;
 use points::Bounds;
-use settings::Answer;
 use settings::Lengths;
 use settings::Settings;
-use settings::Verdict;
 
 // The checks that do not speak of the mesh, in 01's order: 7, 1, 2, 3, 8, 4, 5. 8, "a scratch slice is shorter than stated", is also given where `field` has
 // less room than a value a node.

@@ -8,9 +8,10 @@ use Rattle.points.specs.declared.point.Point.{Point}
 use Rattle.points.specs.Points.{usables}
 use Rattle.settings.specs.declared.Settings.{Settings}
 use Rattle.settings.specs.declared.Lengths.{Lengths}
-use Rattle.settings.specs.declared.Verdict.{Verdict}
-use Rattle.settings.specs.Refusals.{_then_, earlyVerdict, usableVerdict, extentVerdict, vertexRoomVerdict, faceRoomVerdict, roomVerdict, meshVerdict}
-use Rattle.settings.specs.laws.Passed.{then-assoc}
+use Rattle.answers.specs.declared.Verdict.{Verdict}
+use Rattle.answers.specs.Answers.{_then_}
+use Rattle.settings.specs.Refusals.{earlyVerdict, usableVerdict, extentVerdict, vertexRoomVerdict, faceRoomVerdict, roomVerdict, meshVerdict}
+use Rattle.answers.specs.laws.InARow.{then-assoc}
 use Rattle.scan.specs.Reconstruction.{extentFor, vertexTotal, faceTotal, keptFaces, lateVerdict, verdictOf}
 
 pub first-checks : (xs : List Float) (st : Settings) (lent : Lengths)

@@ -16,12 +16,13 @@ use Rattle.points.specs.declared.point.Point.{Point}
 use Rattle.points.specs.Points.{usables}
 use Rattle.settings.specs.declared.Settings.{Settings}
 use Rattle.settings.specs.declared.Lengths.{Lengths}
-use Rattle.settings.specs.declared.Answer.{Answer}
-use Rattle.settings.specs.declared.Verdict.{Verdict}
-use Rattle.settings.specs.declared.Verdict.the-variants.{Pass}
-use Rattle.settings.specs.Answers.{accepts, refused, answerUnder}
-use Rattle.settings.specs.Refusals.{_then_, earlyVerdict, usableVerdict, extentVerdict, roomVerdict, meshVerdict}
-use Rattle.settings.specs.laws.Passed.{both-pass, refusal-stands, ChecksPassed, ready, room-fits}
+use Rattle.answers.specs.declared.Answer.{Answer}
+use Rattle.answers.specs.declared.Verdict.{Verdict}
+use Rattle.answers.specs.declared.Verdict.the-variants.{Pass}
+use Rattle.answers.specs.Answers.{accepts, refused, answerUnder, _then_}
+use Rattle.settings.specs.Refusals.{earlyVerdict, usableVerdict, extentVerdict, roomVerdict, meshVerdict}
+use Rattle.answers.specs.laws.InARow.{both-pass, refusal-stands}
+use Rattle.settings.specs.laws.Passed.{ChecksPassed, ready, room-fits}
 use Rattle.meshes.specs.declared.MeshSize.{MeshSize}
 use Rattle.scan.specs.Reconstruction.{Results, gridFor, latticeFor, fieldFor, levelFor, extentFor, vertexTotal}
 use Rattle.scan.specs.Reconstruction.{faceTotal, keptVertices, keptFaces, acceptedAnswer, lateVerdict, resultsUnder, reconstructed}

@@ -10,9 +10,9 @@ use Rattle.closed.specs.Faces.{corners}
 use Rattle.closed.specs.laws.Turning.{length-corners}
 use Rattle.points.specs.declared.point.Point.{Point}
 use Rattle.settings.specs.declared.Settings.{Settings}
-use Rattle.settings.specs.declared.Answer.{Answer}
-use Rattle.settings.specs.declared.Verdict.{Verdict}
-use Rattle.settings.specs.Answers.{accepts, refused, answerUnder}
+use Rattle.answers.specs.declared.Answer.{Answer}
+use Rattle.answers.specs.declared.Verdict.{Verdict}
+use Rattle.answers.specs.Answers.{accepts, refused, answerUnder}
 use Rattle.scan.specs.Reconstruction.{acceptedAnswer, keptVertices, keptFaces, resultsUnder}
 use Rattle.poisson.specs.Words.{Shown}
 

@@ -4,7 +4,7 @@
 use mathlib.Core.Path.{_≡_}
 use lib.ListN.{length}
 use Rattle.lists.specs.Lists.{zero32, padded}
-use Rattle.settings.specs.declared.Answer.{Answer}
+use Rattle.answers.specs.declared.Answer.{Answer}
 use Rattle.settings.specs.declared.Lengths.{Lengths}
 use Rattle.ending.specs.Slices.{Slices}
 use Rattle.ending.specs.Ending.{Cleared}

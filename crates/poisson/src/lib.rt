@@ -7,17 +7,18 @@ ghost use Prim.Native.Nat.{_*_, _^_, _<_};
 ghost use lib.ListN.{length};
 ghost use Rattle.points.specs.Points.{usables};
 ghost use Rattle.settings.specs.Settings.{defaults};
-ghost use Rattle.settings.specs.Refusals.{_then_, earlyVerdict, usableVerdict, extentVerdict, roomVerdict, meshVerdict};
+ghost use Rattle.answers.specs.Answers.{_then_};
+ghost use Rattle.settings.specs.Refusals.{earlyVerdict, usableVerdict, extentVerdict, roomVerdict, meshVerdict};
 ghost use Rattle.scan.specs.Reconstruction.{lengthsOf, extentFor, lateVerdict, resultsUnder, reconstructed};
 ghost use Rattle.scan.specs.Words.{Lent};
 ghost use Rattle.poisson.specs.Outcome.{Done};
 ghost use Rattle.poisson.specs.Words.{Shown};
+use answers::Answer;
+use answers::Verdict;
 use meshes::MeshSize;
 use points::Bounds;
-use settings::Answer;
 use settings::Lengths;
 use settings::Settings;
-use settings::Verdict;
 
 // The checks before any slice is touched, in 01's order. 7: "point slice not a multiple of six, or over 1,048,576 points". 1: "no points". 2: "depth below 3
 // or above 8". 3: "smoothing NaN, zero or negative". 8: "a scratch slice is shorter than stated". Then 4 and 5, of the points.

@@ -25,13 +25,14 @@ use Rattle.points.specs.declared.point.Point.{Point}
 use Rattle.points.specs.Points.{numbersPerPoint, given, usables}
 use Rattle.settings.specs.declared.Settings.{Settings}
 use Rattle.settings.specs.declared.Lengths.{Lengths}
-use Rattle.settings.specs.declared.Answer.{Answer}
-use Rattle.settings.specs.declared.Verdict.{Verdict}
-use Rattle.settings.specs.declared.Verdict.the-variants.{Pass, PointSlice, NoPoints, Depth, Smoothing, ScratchRoom, TooFew, Flat, VertexRoom, FaceRoom, NoFace}
-use Rattle.settings.specs.Answers.{numberOf, accepts}
-use Rattle.settings.specs.Refusals.{_when_, _then_, pointSliceVerdict, noPointsVerdict, depthVerdict, smoothingVerdict, anyShort, scratchVerdict}
+use Rattle.answers.specs.declared.Answer.{Answer}
+use Rattle.answers.specs.declared.Verdict.{Verdict}
+use Rattle.answers.specs.declared.Verdict.the-variants.{Pass, PointSlice, NoPoints, Depth, Smoothing, ScratchRoom, TooFew, Flat, VertexRoom, FaceRoom, NoFace}
+use Rattle.answers.specs.Answers.{numberOf, accepts, _when_, _then_}
+use Rattle.settings.specs.Refusals.{pointSliceVerdict, noPointsVerdict, depthVerdict, smoothingVerdict, anyShort, scratchVerdict}
 use Rattle.settings.specs.Refusals.{earlyVerdict, usableVerdict, extentVerdict, vertexRoomVerdict, faceRoomVerdict, meshVerdict}
-use Rattle.settings.specs.laws.Passed.{accepted, number-under, depth-fits, Fit, ready}
+use Rattle.answers.specs.laws.InARow.{accepted, number-under}
+use Rattle.settings.specs.laws.Passed.{depth-fits, Fit, ready}
 use Rattle.cells.specs.Extraction.{edgeFaces, vertexEdges}
 use Rattle.scan.specs.Reconstruction.{gridFor, extentFor, vertexTotal, faceTotal, keptFaces, acceptedAnswer, lateVerdict, verdictOf, reconstructed}
 use Rattle.preview.specs.Preview.{Previewed}

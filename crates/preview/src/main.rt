@@ -1,8 +1,8 @@
 // Document 01, "The preview program": reads a sheet from standard input and writes the mesh, or why there is none. Each line ends in a newline.
+use answers::Answer;
 use libc::STDIN_FILENO;
 use libc::STDOUT_FILENO;
 use points::Point;
-use settings::Answer;
 use settings::Settings;
 use sheet::Header;
 use sheet::Sheet;

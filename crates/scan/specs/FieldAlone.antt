@@ -11,11 +11,11 @@ use Rattle.points.specs.declared.point.Point.{Point}
 use Rattle.points.specs.Points.{usables}
 use Rattle.settings.specs.declared.Settings.{Settings}
 use Rattle.settings.specs.declared.Lengths.{Lengths}
-use Rattle.settings.specs.declared.Answer.{Answer}
-use Rattle.settings.specs.declared.Verdict.{Verdict}
-use Rattle.settings.specs.declared.Verdict.the-variants.{ScratchRoom}
-use Rattle.settings.specs.Answers.{accepts, answerUnder}
-use Rattle.settings.specs.Refusals.{_when_, _then_, earlyVerdict, usableVerdict, extentVerdict}
+use Rattle.answers.specs.declared.Answer.{Answer}
+use Rattle.answers.specs.declared.Verdict.{Verdict}
+use Rattle.answers.specs.declared.Verdict.the-variants.{ScratchRoom}
+use Rattle.answers.specs.Answers.{accepts, answerUnder, _when_, _then_}
+use Rattle.settings.specs.Refusals.{earlyVerdict, usableVerdict, extentVerdict}
 use Rattle.ending.specs.Slices.{Scratch}
 use Rattle.scan.specs.Reconstruction.{lengthsOf, extentFor, fieldFor, levelFor}
 

@@ -15,10 +15,10 @@ use Rattle.points.specs.Box.{boundsOf, extentOf, sideOf, originOf}
 use Rattle.search.specs.Spacing.{spacingOf}
 use Rattle.settings.specs.declared.Settings.{Settings}
 use Rattle.settings.specs.declared.Lengths.{Lengths}
-use Rattle.settings.specs.declared.Answer.{Answer}
-use Rattle.settings.specs.declared.Verdict.{Verdict}
-use Rattle.settings.specs.Answers.{accepts, answerUnder}
-use Rattle.settings.specs.Refusals.{_then_, earlyVerdict, usableVerdict, extentVerdict, vertexRoomVerdict, faceRoomVerdict, meshVerdict}
+use Rattle.answers.specs.declared.Answer.{Answer}
+use Rattle.answers.specs.declared.Verdict.{Verdict}
+use Rattle.answers.specs.Answers.{accepts, answerUnder, _then_}
+use Rattle.settings.specs.Refusals.{earlyVerdict, usableVerdict, extentVerdict, vertexRoomVerdict, faceRoomVerdict, meshVerdict}
 use Rattle.levels.specs.declared.Problem.{Problem}
 use Rattle.levels.specs.Levels.{solution}
 use Rattle.trim.specs.Trim.{trimmedVertices, trimmedFaces}

@@ -14,8 +14,8 @@ use Rattle.points.specs.declared.bounds.Bounds.{Bounds}
 use Rattle.points.specs.Points.{given}
 use Rattle.points.specs.Box.{sideOf, originOf}
 use Rattle.settings.specs.declared.Settings.{Settings}
-use Rattle.settings.specs.declared.Answer.{Answer}
-use Rattle.settings.specs.Answers.{answerUnder}
+use Rattle.answers.specs.declared.Answer.{Answer}
+use Rattle.answers.specs.Answers.{answerUnder}
 use Rattle.settings.specs.Refusals.{meshVerdict}
 use Rattle.numbering.specs.Words.{edgeTable}
 use Rattle.meshes.specs.declared.MeshSize.{MeshSize}

@@ -6,16 +6,17 @@ ghost use Prim.Native.Nat.{_≤_};
 ghost use lib.ListN.{length};
 ghost use Rattle.points.specs.Points.{usables};
 ghost use Rattle.points.specs.Box.{boundsOf};
-ghost use Rattle.settings.specs.Refusals.{_then_, usableVerdict, extentVerdict};
+ghost use Rattle.answers.specs.Answers.{_then_};
+ghost use Rattle.settings.specs.Refusals.{usableVerdict, extentVerdict};
 ghost use Rattle.scan.specs.Reconstruction.{extentFor};
 ghost use Rattle.scan.specs.Words.{GridOver, Lent, Solved, MeshAsked, MeshMade, trimmedAnswer};
+use answers::Answer;
+use answers::Verdict;
 use grid::Grid;
 use levels::Problem;
 use meshes::MeshSize;
 use points::Bounds;
-use settings::Answer;
 use settings::Settings;
-use settings::Verdict;
 
 // What the points themselves tell. 4: "fewer than 10 usable points". 5: "largest extent is zero".
 pub fn check_points(points: &[f32]) -> Verdict

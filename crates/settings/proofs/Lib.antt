@@ -1,4 +1,2 @@
--- The law that the functions' proofs cite.
-pub mod Verdicts
 -- No second outcome fits.
 pub mod OneAnswer

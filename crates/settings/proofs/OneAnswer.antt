@@ -9,14 +9,6 @@ use Rattle.settings.proofs as fn
 pub settings-new : OneOutcome fn.Settings.new.ended fn.Settings.new.Reads.Post
 settings-new κs args o o′ p q = same p q & refl
 
--- ---- answers.rt
-
-pub verdict-number : OneOutcome fn.Verdict.number.ended fn.Verdict.number.Reads.Post
-verdict-number κs args o o′ p q = same p q & refl
-
-pub answer-refused : OneOutcome fn.Answer.refused.ended fn.Answer.refused.Reads.Post
-answer-refused κs args o o′ p q = same p q & refl
-
 -- ---- checks.rt
 
 pub nodes : OneOutcome fn.checks.nodes.ended fn.checks.nodes.Reads.Post

@@ -1,6 +1,6 @@
 -- Document 01, "Numbers of refusal, in order of checking": each line of the column "Given exactly when" as a verdict, in the column's order.
 -- Definitions only; assumes nothing.
-use mathlib.Core.Bool.{Bool, false, cond, not, _||_}
+use mathlib.Core.Bool.{Bool, false, not, _||_}
 use mathlib.Core.List.{List, [], _∷_}
 use Prim.Native.Nat.{ℕ, _*_, _%_, _^_}
 use lib.Dec.{ltb, eqb}
@@ -11,19 +11,9 @@ use Rattle.lists.specs.Lists.{zero32}
 use Rattle.points.specs.Points.{numbersPerPoint, given}
 use Rattle.settings.specs.declared.Settings.{Settings}
 use Rattle.settings.specs.declared.Lengths.{Lengths}
-use Rattle.settings.specs.declared.Verdict.{Verdict}
-use Rattle.settings.specs.declared.Verdict.the-variants.{Pass, PointSlice, NoPoints, Depth, Smoothing, ScratchRoom, TooFew, Flat, VertexRoom, FaceRoom, NoFace}
-use Rattle.settings.specs.Answers.{accepts}
-
--- the verdict v where the test holds
-infix 30 _when_
-abbrev pub _when_ : Verdict → Bool → Verdict
-v when test = cond test v Pass
-
--- the first that refuses
-infixr 20 _then_
-abbrev pub _then_ : Verdict → Verdict → Verdict
-v then w = cond (accepts v) w v
+use Rattle.answers.specs.declared.Verdict.{Verdict}
+use Rattle.answers.specs.declared.Verdict.the-variants.{PointSlice, NoPoints, Depth, Smoothing, ScratchRoom, TooFew, Flat, VertexRoom, FaceRoom, NoFace}
+use Rattle.answers.specs.Answers.{_when_, _then_}
 
 -- ---- before any point is looked at
 

@@ -6,7 +6,7 @@ ghost use Rattle.settings.specs.Refusals.{pointSliceVerdict, noPointsVer
 ghost use Rattle.settings.specs.Refusals.{usableVerdict, extentVerdict, roomVerdict, meshVerdict, earlyVerdict};
 use crate::Lengths;
 use crate::Settings;
-use crate::Verdict;
+use answers::Verdict;
 use points::Point;
 
 // "Over 1,048,576 points."

@@ -1,6 +1,5 @@
 // Document 01, "What crosses the counter" and "Numbers of refusal": what a caller gives beside the points and gets beside the mesh. Beside `PoissonConfig`
-// and the errors of the Rust's poisson.rs, whose strings are numbers here. `answers` has the numbers and the answers, `checks` says who is refused.
-mod answers;
+// and the errors of the Rust's poisson.rs, whose strings are numbers here. `checks` says who is refused; the verdicts and their numbers are in the crate `answers`.
 mod checks;
 
 pub use checks::early;
@@ -11,8 +10,6 @@ pub use checks::room_verdict;
 pub use checks::usable_verdict;
 ghost use mathlib.Core.Path.{_≡_};
 ghost use Rattle.settings.specs.Settings.{defaults};
-
-// ---- in
 
 // "Trimming is either off or within a distance." The Rust has an `Option<f32>`.
 pub enum Trimming {
@@ -53,32 +50,4 @@ pub struct Lengths {
     pub grids: [usize; 7],
     pub edges: usize,
     pub distances: usize,
-}
-
-// ---- out
-
-// Acceptance, or why a call is refused, in the order of checking.
-pub enum Verdict {
-    Pass,
-    PointSlice,
-    NoPoints,
-    Depth,
-    Smoothing,
-    ScratchRoom,
-    TooFew,
-    Flat,
-    VertexRoom,
-    FaceRoom,
-    NoFace,
-}
-
-// The answer. Vertices, faces, low and high are those of the mesh that is returned, after trimming.
-pub struct Answer {
-    pub number: u32,
-    pub usable: usize,
-    pub vertices: usize,
-    pub faces: usize,
-    pub level: f32,
-    pub low: [f32; 3],
-    pub high: [f32; 3],
 }

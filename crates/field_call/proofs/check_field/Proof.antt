@@ -2,7 +2,7 @@
 use mathlib.Core.Path.{sym, _∙_, subst}
 use Prim.Native.Nat.{ℕ, _≤_, _<_}
 use denote.Ref.{now}
-use Rattle.settings.proofs.Verdicts.{stops, goes-on}
+use Rattle.answers.proofs.Verdicts.{stops, goes-on}
 use Rattle.settings.specs.laws.Passed.{ready}
 use Rattle.scan.specs.FieldAlone.{fieldVerdict}
 use Rattle.field_call.proofs.Results.{too-short, long-enough}

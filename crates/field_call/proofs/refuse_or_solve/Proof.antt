@@ -4,7 +4,7 @@ use mathlib.Core.List.{[]}
 use Prim.Native.Nat.{_^_, _≤_}
 use lib.ListN.{length}
 use denote.Ref.{now}
-use Rattle.settings.proofs.Verdicts.{refuses}
+use Rattle.answers.proofs.Verdicts.{refuses}
 use Rattle.settings.specs.declared.Lengths.{Lengths}
 use Rattle.settings.specs.laws.Passed.{Fit, ChecksPassed}
 use Rattle.ending.specs.Slices.{Slices}

@@ -1,5 +1,5 @@
 -- The checks in a row: one that refuses stands, and after one that passes the next decides.
-use Rattle.settings.proofs.Verdicts.{stops, goes-on}
+use Rattle.answers.proofs.Verdicts.{stops, goes-on}
 use borrow.Author.Needs.{needs}
 use Rattle.poisson.proofs.check.Statement.{statement}
 use Rattle.poisson.proofs.check.Tie as tie

@@ -1,5 +1,5 @@
 -- The checks in a row.
-use Rattle.settings.proofs.Verdicts.{stops, goes-on}
+use Rattle.answers.proofs.Verdicts.{stops, goes-on}
 use borrow.Author.Needs.{needs}
 use Rattle.poisson.proofs.check_mesh.Statement.{statement}
 use Rattle.poisson.proofs.check_mesh.Tie as tie

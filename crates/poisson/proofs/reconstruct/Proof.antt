@@ -14,7 +14,7 @@ use Rattle.grid.specs.Grid.{Sides}
 use Rattle.points.specs.declared.point.Point.{Point}
 use Rattle.points.specs.Points.{usables}
 use Rattle.settings.specs.declared.Settings.{Settings}
-use Rattle.settings.proofs.Verdicts.{refuses}
+use Rattle.answers.proofs.Verdicts.{refuses}
 use Rattle.numbering.specs.Words.{Counted}
 use Rattle.scan.specs.Reconstruction.{gridFor, latticeFor, fieldFor, levelFor, vertexTotal, faceTotal, keptVertices}
 use Rattle.scan.proofs.PutTogether.{nodes-cubed, lattice-size, grid-is, counted-is}

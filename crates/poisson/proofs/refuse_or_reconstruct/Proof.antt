@@ -1,6 +1,6 @@
 -- A refusal of the first checks stands; once they pass, parts of exactly the stated lengths are handed on (`parts-lent`).
 use mathlib.Core.Path.{refl, sym, ap, _∙_}
-use Rattle.settings.proofs.Verdicts.{refuses}
+use Rattle.answers.proofs.Verdicts.{refuses}
 use Prim.Native.Nat.{ℕ, _*_, _≤_}
 use lib.ListN.{length}
 use lib.Seq.{length-take-le}

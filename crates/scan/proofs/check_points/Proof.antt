@@ -1,6 +1,6 @@
 -- The two checks in a row, of the count and of the extent.
 use mathlib.Core.Path.{ap, _∙_}
-use Rattle.settings.proofs.Verdicts.{stops, goes-on}
+use Rattle.answers.proofs.Verdicts.{stops, goes-on}
 use Rattle.points.specs.Box.{extentOf}
 use Rattle.settings.specs.Refusals.{usableVerdict, extentVerdict}
 use borrow.Author.Needs.{needs}

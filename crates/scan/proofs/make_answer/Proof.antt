@@ -1,5 +1,5 @@
 -- A refusal stands; else the answer is made of what was given and the box.
-use Rattle.settings.proofs.Verdicts.{refuses}
+use Rattle.answers.proofs.Verdicts.{refuses}
 use Rattle.scan.specs.Words.{trimmedAnswer}
 use borrow.Author.Needs.{needs}
 use Rattle.scan.proofs.make_answer.Statement.{statement}

@@ -18,9 +18,10 @@ use Rattle.grid.specs.declared.Lattice.{Lattice}
 use Rattle.points.specs.declared.point.Point.{Point}
 use Rattle.settings.specs.declared.Settings.{Settings}
 use Rattle.settings.specs.declared.Lengths.{Lengths}
-use Rattle.settings.specs.declared.Verdict.{Verdict}
-use Rattle.settings.specs.declared.Verdict.the-variants.{VertexRoom, FaceRoom, NoFace}
-use Rattle.settings.specs.Refusals.{_when_, _then_, vertexRoomVerdict, faceRoomVerdict, meshVerdict}
+use Rattle.answers.specs.declared.Verdict.{Verdict}
+use Rattle.answers.specs.declared.Verdict.the-variants.{VertexRoom, FaceRoom, NoFace}
+use Rattle.answers.specs.Answers.{_when_, _then_}
+use Rattle.settings.specs.Refusals.{vertexRoomVerdict, faceRoomVerdict, meshVerdict}
 use Rattle.cells.specs.Extraction.{isBelow, belowAt, countX, countY, countZ, edgeFaces, vertexEdges}
 use Rattle.surface.specs.Surface.{levelOf}
 use Rattle.scan.specs.Reconstruction.{gridFor, latticeFor, fieldFor, levelFor, vertexTotal, faceTotal, keptFaces, lateVerdict}

@@ -7,7 +7,7 @@ use Prim.Native.Nat.{ℕ}
 use lib.Ieee.{nan, inf, neg, lt, ofBits}
 use Rattle.lists.specs.Lists.{zero32}
 use Rattle.settings.specs.declared.Lengths.{Lengths}
-use Rattle.settings.specs.declared.Verdict.the-variants.{Pass, Depth, Smoothing, TooFew, VertexRoom, FaceRoom, NoFace}
+use Rattle.answers.specs.declared.Verdict.the-variants.{Pass, Depth, Smoothing, TooFew, VertexRoom, FaceRoom, NoFace}
 use Rattle.settings.specs.Refusals.{depthVerdict, smoothingVerdict, usableVerdict, vertexRoomVerdict, faceRoomVerdict, meshVerdict}
 
 -- result slices of these lengths

@@ -5,10 +5,11 @@ use mathlib.Core.List.{List}
 use lib.Ieee.{Float}
 use denote.Ref.{now}
 use Rattle.settings.specs.declared.Settings.{Settings}
-use Rattle.settings.specs.declared.Verdict.{Verdict}
-use Rattle.settings.specs.Refusals.{_then_, pointSliceVerdict, noPointsVerdict, depthVerdict, scratchVerdict}
+use Rattle.answers.specs.declared.Verdict.{Verdict}
+use Rattle.answers.specs.Answers.{_then_}
+use Rattle.settings.specs.Refusals.{pointSliceVerdict, noPointsVerdict, depthVerdict, scratchVerdict}
 use Rattle.settings.specs.laws.Passed.{depth-fits}
-use Rattle.settings.proofs.Verdicts.{stops, goes-on}
+use Rattle.answers.proofs.Verdicts.{stops, goes-on}
 use borrow.Author.Needs.{needs}
 use Rattle.settings.proofs.checks.early.Statement.{statement}
 use Rattle.settings.proofs.checks.early.Tie as tie

@@ -3,9 +3,9 @@ use mathlib.Core.Bool.{Bool, cond}
 use Prim.Native.Nat.{ℕ}
 use lib.Dec.{eqb}
 use Rattle.lists.specs.Lists.{zeros32, zero32}
-use Rattle.settings.specs.declared.Answer.{Answer}
-use Rattle.settings.specs.declared.Verdict.{Verdict}
-use Rattle.settings.specs.declared.Verdict.the-variants.{Pass, PointSlice, NoPoints, Depth, Smoothing, ScratchRoom, TooFew, Flat, VertexRoom, FaceRoom, NoFace}
+use Rattle.answers.specs.declared.Answer.{Answer}
+use Rattle.answers.specs.declared.Verdict.{Verdict}
+use Rattle.answers.specs.declared.Verdict.the-variants.{Pass, PointSlice, NoPoints, Depth, Smoothing, ScratchRoom, TooFew, Flat, VertexRoom, FaceRoom, NoFace}
 
 -- 1 to 6 are the repository's, 7 to 10 are added, 0 is acceptance
 abbrev pub numberOf : Verdict → ℕ
@@ -31,3 +31,15 @@ refused v = record { number = numberOf v; usable = 0; vertices = 0; faces = 0; l
 -- what is answered under a verdict: under acceptance, what there is to answer
 abbrev pub answerUnder : Verdict → Answer → Answer
 answerUnder v made = cond (accepts v) made (refused v)
+
+-- ---- checks in a row
+
+-- the verdict v where the test holds
+infix 30 _when_
+abbrev pub _when_ : Verdict → Bool → Verdict
+v when test = cond test v Pass
+
+-- the first that refuses
+infixr 20 _then_
+abbrev pub _then_ : Verdict → Verdict → Verdict
+v then w = cond (accepts v) w v

@@ -1,7 +1,7 @@
 -- The number is the verdict's; all else is zero as it stands.
 use borrow.Author.Needs.{needs}
-use Rattle.settings.proofs.Answer.refused.Statement.{statement}
-use Rattle.settings.proofs.Answer.refused.Tie as tie
+use Rattle.answers.proofs.Answer.refused.Statement.{statement}
+use Rattle.answers.proofs.Answer.refused.Tie as tie
 
 number-requires : tie.Need-number-requires
 number-requires c κs = search needs

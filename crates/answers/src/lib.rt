@@ -1,8 +1,33 @@
-// A verdict's number, and the answer of a refusal.
+// Document 01, "Numbers of refusal" and "What crosses the counter": the verdicts with their numbers, and the answer. Beside the errors of the Rust's
+// poisson.rs, whose strings are numbers here.
 ghost use mathlib.Core.Path.{_≡_};
-ghost use Rattle.settings.specs.Answers.{numberOf, refused};
-use crate::Answer;
-use crate::Verdict;
+ghost use Rattle.answers.specs.Answers.{numberOf, refused};
+
+// Acceptance, or why a call is refused, in the order of checking.
+pub enum Verdict {
+    Pass,
+    PointSlice,
+    NoPoints,
+    Depth,
+    Smoothing,
+    ScratchRoom,
+    TooFew,
+    Flat,
+    VertexRoom,
+    FaceRoom,
+    NoFace,
+}
+
+// The answer. Vertices, faces, low and high are those of the mesh that is returned, after trimming.
+pub struct Answer {
+    pub number: u32,
+    pub usable: usize,
+    pub vertices: usize,
+    pub faces: usize,
+    pub level: f32,
+    pub low: [f32; 3],
+    pub high: [f32; 3],
+}
 
 impl Verdict {
     // 01's number.

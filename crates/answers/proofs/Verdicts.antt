@@ -6,11 +6,10 @@ use mathlib.Core.List.{List, [], _∷_}
 use Prim.Native.Nat.{ℕ}
 use types.Run.{OneOf, miss}
 use denote.Enum.Declared.{tagOf}
-use Rattle.settings.specs.Answers.{accepts}
-use Rattle.settings.specs.Refusals.{_then_}
-use Rattle.settings.specs.declared.Verdict.{Verdict}
-use Rattle.settings.specs.declared.Verdict.the-variants.{Pass, PointSlice, NoPoints, Depth, Smoothing, ScratchRoom, TooFew, Flat, VertexRoom, FaceRoom, NoFace}
-use Rattle.settings.proofs.Verdict.{the-type}
+use Rattle.answers.specs.Answers.{accepts, _then_}
+use Rattle.answers.specs.declared.Verdict.{Verdict}
+use Rattle.answers.specs.declared.Verdict.the-variants.{Pass, PointSlice, NoPoints, Depth, Smoothing, ScratchRoom, TooFew, Flat, VertexRoom, FaceRoom, NoFace}
+use Rattle.answers.proofs.Verdict.{the-type}
 
 -- the tags of all verdicts but `Pass`, as the `else` of `let Verdict::Pass = v else ..` is told them
 abbrev pub refusals : List ℕ
