@@ -2,56 +2,57 @@
 use Rattle.std.proofs.Common.{refl}
 use Rattle.lists.specs.OneOutcome.{OneOutcome}
 use Rattle.lists.specs.Laws.OneAnswer.{same, ◌&◌}
+use Rattle.arith.specs.contracts as contract
 use Rattle.arith.proofs as fn
 
 -- ---- exponential.rt
 
-pub exp_neg : OneOutcome fn.exponential.exp_neg.ended fn.exponential.exp_neg.Reads.Post
+pub exp_neg : OneOutcome contract.exponential.exp_neg.ended fn.exponential.exp_neg.Reads.Post
 exp_neg κs args o o' p q = same p q & refl
 
 -- ---- narrowing.rt
 
-pub narrow : OneOutcome fn.narrowing.narrow.ended fn.narrowing.narrow.Reads.Post
+pub narrow : OneOutcome contract.narrowing.narrow.ended fn.narrowing.narrow.Reads.Post
 narrow κs args o o' p q = same p q & refl
 
 -- ---- patterns.rt
 
-pub float32 : OneOutcome fn.patterns.float32.ended fn.patterns.float32.Reads.Post
+pub float32 : OneOutcome contract.patterns.float32.ended fn.patterns.float32.Reads.Post
 float32 κs args o o' p q = same p q & refl
 
-pub float64 : OneOutcome fn.patterns.float64.ended fn.patterns.float64.Reads.Post
+pub float64 : OneOutcome contract.patterns.float64.ended fn.patterns.float64.Reads.Post
 float64 κs args o o' p q = same p q & refl
 
-pub pattern32 : OneOutcome fn.patterns.pattern32.ended fn.patterns.pattern32.Reads.Post
+pub pattern32 : OneOutcome contract.patterns.pattern32.ended fn.patterns.pattern32.Reads.Post
 pattern32 κs args o o' p q = same p q & refl
 
-pub pattern64 : OneOutcome fn.patterns.pattern64.ended fn.patterns.pattern64.Reads.Post
+pub pattern64 : OneOutcome contract.patterns.pattern64.ended fn.patterns.pattern64.Reads.Post
 pattern64 κs args o o' p q = same p q & refl
 
 -- ---- pick.rt
 
-pub clamp64 : OneOutcome fn.pick.clamp64.ended fn.pick.clamp64.Reads.Post
+pub clamp64 : OneOutcome contract.pick.clamp64.ended fn.pick.clamp64.Reads.Post
 clamp64 κs args o o' p q = same p q & refl
 
-pub clamp32 : OneOutcome fn.pick.clamp32.ended fn.pick.clamp32.Reads.Post
+pub clamp32 : OneOutcome contract.pick.clamp32.ended fn.pick.clamp32.Reads.Post
 clamp32 κs args o o' p q = same p q & refl
 
-pub sign : OneOutcome fn.pick.sign.ended fn.pick.sign.Reads.Post
+pub sign : OneOutcome contract.pick.sign.ended fn.pick.sign.Reads.Post
 sign κs args o o' p q = same p q & refl
 
-pub least : OneOutcome fn.pick.least.ended fn.pick.least.Reads.Post
+pub least : OneOutcome contract.pick.least.ended fn.pick.least.Reads.Post
 least κs args o o' p q = same p q & refl
 
-pub largest : OneOutcome fn.pick.largest.ended fn.pick.largest.Reads.Post
+pub largest : OneOutcome contract.pick.largest.ended fn.pick.largest.Reads.Post
 largest κs args o o' p q = same p q & refl
 
 -- ---- steps.rt
 
-pub floor : OneOutcome fn.steps.floor.ended fn.steps.floor.Reads.Post
+pub floor : OneOutcome contract.steps.floor.ended fn.steps.floor.Reads.Post
 floor κs args o o' p q = same p q & refl
 
-pub ceiling : OneOutcome fn.steps.ceiling.ended fn.steps.ceiling.Reads.Post
+pub ceiling : OneOutcome contract.steps.ceiling.ended fn.steps.ceiling.Reads.Post
 ceiling κs args o o' p q = same p q & refl
 
-pub to_whole : OneOutcome fn.steps.to_whole.ended fn.steps.to_whole.Reads.Post
+pub to_whole : OneOutcome contract.steps.to_whole.ended fn.steps.to_whole.Reads.Post
 to_whole κs args o o' p q = same p q & refl

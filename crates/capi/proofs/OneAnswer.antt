@@ -8,6 +8,7 @@ use Rattle.answers.specs.declared.Answer.{Answer}
 use Rattle.lists.specs.OneOutcome.{OneOutcome}
 use Rattle.lists.specs.Laws.OneAnswer.{same, ◌&◌}
 use Rattle.capi.specs.Flat.{counts_of, values_of, AnswerTold}
+use Rattle.capi.specs.contracts as contract
 use Rattle.capi.proofs as fn
 
 -- what is told of one answer, twice, is the same
@@ -22,7 +23,7 @@ module _ {d : Answer} {n n' : ℕ} {cs cs' : List ℕ} {vs vs' : List Float} (a 
   values : vs ≡ vs'
   values = same (p.values_are ∙ ap values_of e) (q.values_are ∙ ap values_of e')
 
-pub poisson_reconstruct : OneOutcome fn.poisson_reconstruct.ended fn.poisson_reconstruct.Reads.Post
+pub poisson_reconstruct : OneOutcome contract.poisson_reconstruct.ended fn.poisson_reconstruct.Reads.Post
 poisson_reconstruct κs args o o' p q =
     numbers p.answer q.answer p.told q.told p.done.answered q.done.answered
     & refl
@@ -48,7 +49,7 @@ poisson_reconstruct κs args o o' p q =
     & values p.answer q.answer p.told q.told p.done.answered q.done.answered
     & refl
 
-pub poisson_reconstruct_default : OneOutcome fn.poisson_reconstruct_default.ended fn.poisson_reconstruct_default.Reads.Post
+pub poisson_reconstruct_default : OneOutcome contract.poisson_reconstruct_default.ended fn.poisson_reconstruct_default.Reads.Post
 poisson_reconstruct_default κs args o o' p q =
     numbers p.answer q.answer p.told q.told p.done.answered q.done.answered
     & refl
@@ -67,7 +68,7 @@ poisson_reconstruct_default κs args o o' p q =
     & values p.answer q.answer p.told q.told p.done.answered q.done.answered
     & refl
 
-pub poisson_field : OneOutcome fn.poisson_field.ended fn.poisson_field.Reads.Post
+pub poisson_field : OneOutcome contract.poisson_field.ended fn.poisson_field.Reads.Post
 poisson_field κs args o o' p q =
     numbers p.answer q.answer p.told q.told p.done.answered q.done.answered
     & refl
@@ -92,5 +93,5 @@ poisson_field κs args o o' p q =
     & values p.answer q.answer p.told q.told p.done.answered q.done.answered
     & refl
 
-pub poisson_defaults : OneOutcome fn.poisson_defaults.ended fn.poisson_defaults.Reads.Post
+pub poisson_defaults : OneOutcome contract.poisson_defaults.ended fn.poisson_defaults.Reads.Post
 poisson_defaults κs args o o' p q = refl & same p.0 q.0 & same p.1 q.1 & same p.2 q.2 & refl

@@ -3,26 +3,27 @@ use mathlib.Core.Path.{refl}
 use Rattle.lists.specs.OneOutcome.{OneOutcome}
 use Rattle.lists.specs.Laws.OneAnswer.{same, ◌&◌}
 use Rattle.grid.proofs.OneAnswer.{by_edge}
+use Rattle.cells.specs.contracts as contract
 use Rattle.cells.proofs as fn
 
 -- ---- cell.rt
 
-pub below : OneOutcome fn.cell.below.ended fn.cell.below.Reads.Post
+pub below : OneOutcome contract.cell.below.ended fn.cell.below.Reads.Post
 below κs args o o' p q = same p q & refl
 
-pub side_of_lem : OneOutcome fn.cell.side_of.ended fn.cell.side_of.Reads.Post
+pub side_of_lem : OneOutcome contract.cell.side_of.ended fn.cell.side_of.Reads.Post
 side_of_lem κs args o o' p q = same p q & refl
 
-pub is_plain : OneOutcome fn.cell.is_plain.ended fn.cell.is_plain.Reads.Post
+pub is_plain : OneOutcome contract.cell.is_plain.ended fn.cell.is_plain.Reads.Post
 is_plain κs args o o' p q = same p q & refl
 
-pub edge_offsets : OneOutcome fn.cell.edge_offsets.ended fn.cell.edge_offsets.Reads.Post
+pub edge_offsets : OneOutcome contract.cell.edge_offsets.ended fn.cell.edge_offsets.Reads.Post
 edge_offsets κs args o o' p q = same p q & refl
 
-pub cell_edge : OneOutcome fn.cell.cell_edge.ended fn.cell.cell_edge.Reads.Post
+pub cell_edge : OneOutcome contract.cell.cell_edge.ended fn.cell.cell_edge.Reads.Post
 cell_edge κs args o o' p q = by_edge (same p q) & refl
 
 -- ---- vertex.rt
 
-pub point : OneOutcome fn.vertex.point.ended fn.vertex.point.Reads.Post
+pub point : OneOutcome contract.vertex.point.ended fn.vertex.point.Reads.Post
 point κs args o o' p q = same p q & refl

@@ -2,9 +2,10 @@
 use mathlib.Core.Path.{refl}
 use Rattle.lists.specs.OneOutcome.{OneOutcome}
 use Rattle.lists.specs.Laws.OneAnswer.{same, ◌&◌}
+use Rattle.ending.specs.contracts as contract
 use Rattle.ending.proofs as fn
 
-pub clear_scratch : OneOutcome fn.clear_scratch.ended fn.clear_scratch.Reads.Post
+pub clear_scratch : OneOutcome contract.clear_scratch.ended fn.clear_scratch.Reads.Post
 clear_scratch κs args o o' p q =
     refl
     & same p.s0_clear q.s0_clear
@@ -18,7 +19,7 @@ clear_scratch κs args o o' p q =
     & same p.distances_clear q.distances_clear
     & refl
 
-pub tidy : OneOutcome fn.tidy.ended fn.tidy.Reads.Post
+pub tidy : OneOutcome contract.tidy.ended fn.tidy.Reads.Post
 tidy κs args o o' p q =
     refl
     & refl

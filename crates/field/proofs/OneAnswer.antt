@@ -2,11 +2,12 @@
 use mathlib.Core.Path.{refl}
 use Rattle.lists.specs.OneOutcome.{OneOutcome}
 use Rattle.lists.specs.Laws.OneAnswer.{same, ◌&◌}
+use Rattle.field.specs.contracts as contract
 use Rattle.field.proofs as fn
 
 -- ---- lib.rt
 
-pub right_side : OneOutcome fn.right_side.ended fn.right_side.Reads.Post
+pub right_side : OneOutcome contract.right_side.ended fn.right_side.Reads.Post
 right_side κs args o o' p q =
     refl
     & refl
@@ -22,10 +23,10 @@ right_side κs args o o' p q =
 
 -- ---- divergence.rt
 
-pub divergence : OneOutcome fn.divergence.divergence.ended fn.divergence.divergence.Reads.Post
+pub divergence : OneOutcome contract.divergence.divergence.ended fn.divergence.divergence.Reads.Post
 divergence κs args o o' p q = refl & refl & refl & refl & refl & same p q & refl
 
 -- ---- splat.rt
 
-pub splat : OneOutcome fn.splat.splat.ended fn.splat.splat.Reads.Post
+pub splat : OneOutcome contract.splat.splat.ended fn.splat.splat.Reads.Post
 splat κs args o o' p q = refl & refl & refl & refl & same p q & refl

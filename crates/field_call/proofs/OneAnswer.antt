@@ -2,9 +2,10 @@
 use mathlib.Core.Path.{refl}
 use Rattle.lists.specs.OneOutcome.{OneOutcome}
 use Rattle.lists.specs.Laws.OneAnswer.{same, ◌&◌}
+use Rattle.field_call.specs.contracts as contract
 use Rattle.field_call.proofs as fn
 
-pub poisson_field : OneOutcome fn.poisson_field.ended fn.poisson_field.Reads.Post
+pub poisson_field : OneOutcome contract.poisson_field.ended fn.poisson_field.Reads.Post
 poisson_field κs args o o' p q =
     same p.answered q.answered
     & refl

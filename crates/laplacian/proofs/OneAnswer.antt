@@ -2,7 +2,8 @@
 use mathlib.Core.Path.{refl}
 use Rattle.lists.specs.OneOutcome.{OneOutcome}
 use Rattle.lists.specs.Laws.OneAnswer.{same, ◌&◌}
+use Rattle.laplacian.specs.contracts as contract
 use Rattle.laplacian.proofs as fn
 
-pub apply : OneOutcome fn.apply.ended fn.apply.Reads.Post
+pub apply : OneOutcome contract.apply.ended fn.apply.Reads.Post
 apply κs args o o' p q = refl & refl & refl & same p q & refl

@@ -2,12 +2,13 @@
 use mathlib.Core.Path.{refl}
 use Rattle.lists.specs.OneOutcome.{OneOutcome}
 use Rattle.lists.specs.Laws.OneAnswer.{same, ◌&◌}
+use Rattle.levels.specs.contracts as contract
 use Rattle.levels.proofs as fn
 
-pub problem_grid : OneOutcome fn.Problem.grid.ended fn.Problem.grid.Reads.Post
+pub problem_grid : OneOutcome contract.Problem.grid.ended fn.Problem.grid.Reads.Post
 problem_grid κs args o o' p q = same p.0 q.0 & refl
 
-pub solve : OneOutcome fn.solve.ended fn.solve.Reads.Post
+pub solve : OneOutcome contract.solve.ended fn.solve.Reads.Post
 solve κs args o o' p q =
     refl
     & refl

@@ -3,7 +3,7 @@
 use Rattle.std.specs.Prelude.{◌≡◌}
 use contract.Lifetimes.{Lfts}
 use denote.Triple.Entry.{Args, Res}
-use denote.Triple.Clauses.{Ended, Lasts, AtExit, atExit}
+use denote.Triple.Clauses.{Ended, Lasts, AtExit, at_exit}
 
 -- at most one outcome meets the contract
 abbrev pub Tight : {A : Type 0} → (A → Type 0) → Type 0
@@ -19,7 +19,7 @@ Says f = (κs : Lfts f.signature.lifetimes) → Args f.signature κs → Res f.s
 abbrev pub OneOutcome : (f : Ended) → Says f → Type 0
 OneOutcome f says =
     (κs : Lfts f.signature.lifetimes) (args : Args f.signature κs) →
-    Tight (λ (o : Res f.signature κs × Lasts f κs args). says κs args o.0 (atExit f κs args o.1))
+    Tight (λ (o : Res f.signature κs × Lasts f κs args). says κs args o.0 (at_exit f κs args o.1))
 
 -- the same among the results that the type allows: an array's type says how long it is, so its contract need not
 abbrev pub OneOutcomeAmong : (f : Ended) → ((κs : Lfts f.signature.lifetimes) → Res f.signature κs → Type 0) → Says f → Type 0

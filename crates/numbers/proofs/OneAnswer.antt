@@ -2,13 +2,14 @@
 use Rattle.std.proofs.Common.{refl}
 use Rattle.lists.specs.OneOutcome.{OneOutcome}
 use Rattle.lists.specs.Laws.OneAnswer.{same, ◌&◌}
+use Rattle.numbers.specs.contracts as contract
 use Rattle.numbers.proofs as fn
 
-pub widen : OneOutcome fn.widen.ended fn.widen.Reads.Post
+pub widen : OneOutcome contract.widen.ended fn.widen.Reads.Post
 widen κs args o o' p q = same p q & refl
 
-pub canonical32 : OneOutcome fn.canonical32.ended fn.canonical32.Reads.Post
+pub canonical32 : OneOutcome contract.canonical32.ended fn.canonical32.Reads.Post
 canonical32 κs args o o' p q = same p q & refl
 
-pub canonical64 : OneOutcome fn.canonical64.ended fn.canonical64.Reads.Post
+pub canonical64 : OneOutcome contract.canonical64.ended fn.canonical64.Reads.Post
 canonical64 κs args o o' p q = same p q & refl

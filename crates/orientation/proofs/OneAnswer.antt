@@ -2,17 +2,18 @@
 use mathlib.Core.Path.{refl}
 use Rattle.lists.specs.OneOutcome.{OneOutcome}
 use Rattle.lists.specs.Laws.OneAnswer.{same, ◌&◌}
+use Rattle.orientation.specs.contracts as contract
 use Rattle.orientation.proofs as fn
 
 -- ---- lib.rt
 
-pub orient : OneOutcome fn.orient.ended fn.orient.Reads.Post
+pub orient : OneOutcome contract.orient.ended fn.orient.Reads.Post
 orient κs args o o' p q = refl & refl & refl & refl & same p q & refl
 
 -- ---- triangle.rt
 
-pub centre : OneOutcome fn.triangle.centre.ended fn.triangle.centre.Reads.Post
+pub centre : OneOutcome contract.triangle.centre.ended fn.triangle.centre.Reads.Post
 centre κs args o o' p q = same p q & refl
 
-pub normal : OneOutcome fn.triangle.normal.ended fn.triangle.normal.Reads.Post
+pub normal : OneOutcome contract.triangle.normal.ended fn.triangle.normal.Reads.Post
 normal κs args o o' p q = same p q & refl

@@ -2,47 +2,48 @@
 use mathlib.Core.Path.{refl}
 use Rattle.lists.specs.OneOutcome.{OneOutcome}
 use Rattle.lists.specs.Laws.OneAnswer.{same, ◌&◌}
+use Rattle.points.specs.contracts as contract
 use Rattle.points.proofs as fn
 
 -- ---- bounds.rt
 
-pub bounds_of : OneOutcome fn.bounds.Bounds.of.ended fn.bounds.Bounds.of.Reads.Post
+pub bounds_of : OneOutcome contract.bounds.Bounds.of.ended fn.bounds.Bounds.of.Reads.Post
 bounds_of κs args o o' p q = same p q & refl
 
-pub bounds_extent : OneOutcome fn.bounds.Bounds.extent.ended fn.bounds.Bounds.extent.Reads.Post
+pub bounds_extent : OneOutcome contract.bounds.Bounds.extent.ended fn.bounds.Bounds.extent.Reads.Post
 bounds_extent κs args o o' p q = same p q & refl
 
-pub bounds_side : OneOutcome fn.bounds.Bounds.side.ended fn.bounds.Bounds.side.Reads.Post
+pub bounds_side : OneOutcome contract.bounds.Bounds.side.ended fn.bounds.Bounds.side.Reads.Post
 bounds_side κs args o o' p q = same p q & refl
 
-pub bounds_origin : OneOutcome fn.bounds.Bounds.origin.ended fn.bounds.Bounds.origin.Reads.Post
+pub bounds_origin : OneOutcome contract.bounds.Bounds.origin.ended fn.bounds.Bounds.origin.Reads.Post
 bounds_origin κs args o o' p q = same p q & refl
 
 -- ---- point.rt
 
-pub squares : OneOutcome fn.point.squares.ended fn.point.squares.Reads.Post
+pub squares : OneOutcome contract.point.squares.ended fn.point.squares.Reads.Post
 squares κs args o o' p q = same p q & refl
 
-pub usability_usable : OneOutcome fn.point.Usability.usable.ended fn.point.Usability.usable.Reads.Post
+pub usability_usable : OneOutcome contract.point.Usability.usable.ended fn.point.Usability.usable.Reads.Post
 usability_usable κs args o o' p q = same p q & refl
 
-pub point_given : OneOutcome fn.point.Point.given.ended fn.point.Point.given.Reads.Post
+pub point_given : OneOutcome contract.point.Point.given.ended fn.point.Point.given.Reads.Post
 point_given κs args o o' p q = same p q & refl
 
-pub point_read : OneOutcome fn.point.Point.read.ended fn.point.Point.read.Reads.Post
+pub point_read : OneOutcome contract.point.Point.read.ended fn.point.Point.read.Reads.Post
 point_read κs args o o' p q = same p q & refl
 
-pub point_usability : OneOutcome fn.point.Point.usability.ended fn.point.Point.usability.Reads.Post
+pub point_usability : OneOutcome contract.point.Point.usability.ended fn.point.Point.usability.Reads.Post
 point_usability κs args o o' p q = same p q & refl
 
-pub point_usable : OneOutcome fn.point.Point.usable.ended fn.point.Point.usable.Reads.Post
+pub point_usable : OneOutcome contract.point.Point.usable.ended fn.point.Point.usable.Reads.Post
 point_usable κs args o o' p q = same p q & refl
 
-pub point_place : OneOutcome fn.point.Point.place.ended fn.point.Point.place.Reads.Post
+pub point_place : OneOutcome contract.point.Point.place.ended fn.point.Point.place.Reads.Post
 point_place κs args o o' p q = same p q & refl
 
-pub point_unit : OneOutcome fn.point.Point.unit.ended fn.point.Point.unit.Reads.Post
+pub point_unit : OneOutcome contract.point.Point.unit.ended fn.point.Point.unit.Reads.Post
 point_unit κs args o o' p q = same p q & refl
 
-pub usable_count : OneOutcome fn.point.usable_count.ended fn.point.usable_count.Reads.Post
+pub usable_count : OneOutcome contract.point.usable_count.ended fn.point.usable_count.Reads.Post
 usable_count κs args o o' p q = same p q & refl

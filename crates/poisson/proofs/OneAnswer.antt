@@ -2,9 +2,10 @@
 use mathlib.Core.Path.{refl}
 use Rattle.lists.specs.OneOutcome.{OneOutcome}
 use Rattle.lists.specs.Laws.OneAnswer.{same, ◌&◌}
+use Rattle.poisson.specs.contracts as contract
 use Rattle.poisson.proofs as fn
 
-pub poisson_reconstruction : OneOutcome fn.poisson_reconstruction.ended fn.poisson_reconstruction.Reads.Post
+pub poisson_reconstruction : OneOutcome contract.poisson_reconstruction.ended fn.poisson_reconstruction.Reads.Post
 poisson_reconstruction κs args o o' p q =
     same p.answered q.answered
     & refl
@@ -22,7 +23,7 @@ poisson_reconstruction κs args o o' p q =
     & same p.scratch.distances_clear q.scratch.distances_clear
     & refl
 
-pub poisson_reconstruction_default : OneOutcome fn.poisson_reconstruction_default.ended fn.poisson_reconstruction_default.Reads.Post
+pub poisson_reconstruction_default : OneOutcome contract.poisson_reconstruction_default.ended fn.poisson_reconstruction_default.Reads.Post
 poisson_reconstruction_default κs args o o' p q =
     same p.answered q.answered
     & refl

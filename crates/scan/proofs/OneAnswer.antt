@@ -4,15 +4,16 @@ use mathlib.Core.Path.{refl, sym}
 use Rattle.lists.specs.OneOutcome.{OneOutcome}
 use Rattle.lists.specs.Laws.OneAnswer.{same, ◌&◌, by_thrice}
 use Rattle.meshes.proofs.OneAnswer.{by_counts}
+use Rattle.scan.specs.contracts as contract
 use Rattle.scan.proofs as fn
 
-pub check_points : OneOutcome fn.check_points.ended fn.check_points.Reads.Post
+pub check_points : OneOutcome contract.check_points.ended fn.check_points.Reads.Post
 check_points κs args o o' p q = same p q & refl
 
-pub make_grid : OneOutcome fn.make_grid.ended fn.make_grid.Reads.Post
+pub make_grid : OneOutcome contract.make_grid.ended fn.make_grid.Reads.Post
 make_grid κs args o o' p q = same p.is q.is & refl
 
-pub field_and_level : OneOutcome fn.field_and_level.ended fn.field_and_level.Reads.Post
+pub field_and_level : OneOutcome contract.field_and_level.ended fn.field_and_level.Reads.Post
 field_and_level κs args o o' p q =
     same p.level_is q.level_is
     & refl
@@ -29,7 +30,7 @@ field_and_level κs args o o' p q =
     & same p.no_distances q.no_distances
     & refl
 
-pub make_mesh : OneOutcome fn.make_mesh.ended fn.make_mesh.Reads.Post
+pub make_mesh : OneOutcome contract.make_mesh.ended fn.make_mesh.Reads.Post
 make_mesh κs args o o' p q =
     by_counts (by_thrice p.vertex_count q.vertex_count) (same (sym p.face_count) (sym q.face_count))
     & refl
@@ -45,5 +46,5 @@ make_mesh κs args o o' p q =
     & same p.no_numbers q.no_numbers
     & refl
 
-pub make_answer : OneOutcome fn.make_answer.ended fn.make_answer.Reads.Post
+pub make_answer : OneOutcome contract.make_answer.ended fn.make_answer.Reads.Post
 make_answer κs args o o' p q = same p q & refl

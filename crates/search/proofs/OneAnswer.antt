@@ -2,17 +2,18 @@
 use mathlib.Core.Path.{refl}
 use Rattle.lists.specs.OneOutcome.{OneOutcome}
 use Rattle.lists.specs.Laws.OneAnswer.{same, ◌&◌}
+use Rattle.search.specs.contracts as contract
 use Rattle.search.proofs as fn
 
 -- ---- brute.rt
 
-pub nearest : OneOutcome fn.brute.nearest.ended fn.brute.nearest.Reads.Post
+pub nearest : OneOutcome contract.brute.nearest.ended fn.brute.nearest.Reads.Post
 nearest κs args o o' p q = same p q & refl
 
-pub within : OneOutcome fn.brute.within.ended fn.brute.within.Reads.Post
+pub within : OneOutcome contract.brute.within.ended fn.brute.within.Reads.Post
 within κs args o o' p q = same p q & refl
 
 -- ---- neighbours.rt
 
-pub spacing : OneOutcome fn.neighbours.spacing.ended fn.neighbours.spacing.Reads.Post
+pub spacing : OneOutcome contract.neighbours.spacing.ended fn.neighbours.spacing.Reads.Post
 spacing κs args o o' p q = same p.0 q.0 & refl & same p.1 q.1 & refl

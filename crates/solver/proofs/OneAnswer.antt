@@ -2,11 +2,12 @@
 use mathlib.Core.Path.{refl}
 use Rattle.lists.specs.OneOutcome.{OneOutcome}
 use Rattle.lists.specs.Laws.OneAnswer.{same, ◌&◌}
+use Rattle.solver.specs.contracts as contract
 use Rattle.solver.proofs as fn
 
 -- ---- gradients.rt
 
-pub conjugate_gradient : OneOutcome fn.gradients.conjugate_gradient.ended fn.gradients.conjugate_gradient.Reads.Post
+pub conjugate_gradient : OneOutcome contract.gradients.conjugate_gradient.ended fn.gradients.conjugate_gradient.Reads.Post
 conjugate_gradient κs args o o' p q =
     refl
     & refl

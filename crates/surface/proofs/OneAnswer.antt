@@ -2,9 +2,10 @@
 use mathlib.Core.Path.{refl}
 use Rattle.lists.specs.OneOutcome.{OneOutcome}
 use Rattle.lists.specs.Laws.OneAnswer.{same, ◌&◌}
+use Rattle.surface.specs.contracts as contract
 use Rattle.surface.proofs as fn
 
 -- ---- mean.rt
 
-pub level : OneOutcome fn.mean.level.ended fn.mean.level.Reads.Post
+pub level : OneOutcome contract.mean.level.ended fn.mean.level.Reads.Post
 level κs args o o' p q = same p q & refl

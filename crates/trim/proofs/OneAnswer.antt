@@ -4,9 +4,10 @@ use mathlib.Core.Path.{refl}
 use Rattle.lists.specs.OneOutcome.{OneOutcome}
 use Rattle.lists.specs.Laws.OneAnswer.{same, ◌&◌, by_thrice}
 use Rattle.meshes.proofs.OneAnswer.{by_counts}
+use Rattle.trim.specs.contracts as contract
 use Rattle.trim.proofs as fn
 
-pub trim : OneOutcome fn.trim.ended fn.trim.Reads.Post
+pub trim : OneOutcome contract.trim.ended fn.trim.Reads.Post
 trim κs args o o' p q =
     by_counts (by_thrice p.0.vertex_count q.0.vertex_count) (cc (p.0.face_count, q.0.face_count))
     & refl
