@@ -1,5 +1,7 @@
 // Document 01, "Arithmetic": what a number is here. The definitions and their laws are in specs/; the crate `arith` has the functions
 // that compute. Here are only those that leave a value as it is: a wider format holds every f32, and a NaN is one value, whatever its pattern.
+#![tactic(auto)]
+
 ghost use Rattle.std.specs.Prelude.{◌≡◌};
 
 // x at the wider format, which holds every f32, NaN included.

@@ -1,13 +1,13 @@
 -- `floored x` is the greatest whole number that is not above x, and `ceiled x` the least that is not below, for every finite f64; a NaN, an infinity and
 -- a zero stay. A value with a fraction is below 2 ^ 52 in size, so its whole part, and one more, are floats exactly; then all is about whole numbers and
 -- one fraction. The ceiling is the floor of -x, negated. Assumes nothing.
-use Rattle.std.specs.Prelude.{◌≡◌, ℕ, ◌+◌, ◌*◌, ◌/◌, ◌%◌, ◌^◌, ◌<◌, ◌≤◌, Bool, true, false, cond, not, ◌&&◌, ◌||◌, T, ℤ, pos, ◌==◌, ◌≢◌, is_nan, nat_lt, Float}
+use Rattle.std.specs.Prelude.{◌≡◌, ℕ, ◌+◌, ◌*◌, ◌/◌, ◌%◌, ◌^◌, ◌<◌, ◌≤◌, Bool, true, false, cond, not, ◌&&◌, ◌||◌, T, ℤ, pos, ◌==◌, ◌≢◌, nat_lt, Float}
 use Rattle.std.proofs.Math.Path.{refl, ap}
 use Rattle.std.proofs.Common.{sym, ◌∙◌, mul-one, div-add-mod', le-div_iff_mul-le, lt_of_not-le, mul-le-mul_right, add-zero, arith, ltb-true, eqb-true, lt-ltb}
 use Rattle.std.proofs.lemmas.Bool.{false≢true, eqb-false}
 use Rattle.std.proofs.Math.Nat.{mul-mod_left, zero-mod}
 use Rattle.std.specs.Float.{nan, inf, fin, binary64}
-use Rattle.std.specs.Float.Ieee.{up, down, round, neg, below, level, lt, le, fits}
+use Rattle.std.specs.Float.Ieee.{is_nan, up, down, round, neg, below, level, lt, le, fits}
 use Rattle.std.specs.Float.Ieee.Fits.{down_pos, cond-fits, round-fits, neg-fits}
 use Rattle.std.specs.Float.Ieee.Exact.{HasValue}
 use Rattle.std.specs.Float.Ieee.Scale.{finite}

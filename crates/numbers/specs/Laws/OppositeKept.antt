@@ -2,13 +2,13 @@
 -- First: `add`, `sub`, `mul`, `div`, `narrowed`, `rooted`, the comparisons and the picks do not tell the zeros apart (but for a divisor). Then the laws
 -- of `Symmetry` give the same for opposite operands. A sum of products, a quotient and a narrowing of opposite values are opposite by one law each.
 -- Assumes nothing.
-use Rattle.std.specs.Prelude.{◌≡◌, ℕ, zero, suc, ◌+◌, ◌-◌, ◌*◌, ◌<◌, Bool, true, false, cond, not, ◌&&◌, ◌||◌, T, ltb, ℤ, pos, ◌==◌, is_nan, nat_lt, Float}
+use Rattle.std.specs.Prelude.{◌≡◌, ℕ, zero, suc, ◌+◌, ◌-◌, ◌*◌, ◌<◌, Bool, true, false, cond, not, ◌&&◌, ◌||◌, T, ltb, ℤ, pos, ◌==◌, nat_lt, Float}
 use Rattle.std.proofs.Math.Path.{refl, subst}
 use Rattle.std.proofs.Common.{sym, ap, ◌∙◌, true≢false, inr, mul-pos, mul_assoc, zero-mul, arith, ltb-true, ltb-false, lt-ltb, le-ltb, eq-eqb, ne_eqb, eqb→eq}
 use Rattle.std.specs.Bool.{beq}
 use Rattle.std.proofs.Math.Logic.{inl}
 use Rattle.std.specs.Float.{nan, inf, fin, Format, binary32}
-use Rattle.std.specs.Float.Ieee.{up, down, round, neg, sum, add, sub, mul, div, below, level, lt, eq, le}
+use Rattle.std.specs.Float.Ieee.{is_nan, up, down, round, neg, sum, add, sub, mul, div, below, level, lt, eq, le}
 use Rattle.std.specs.Float.Ieee.Fits.{up_pos, down_pos}
 use Rattle.std.specs.Float.Ieee.Scale.{round_same}
 use Rattle.numbers.specs.Arithmetic.{narrowed, rooted, clamped, least, largest}

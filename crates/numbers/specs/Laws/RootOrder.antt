@@ -1,13 +1,13 @@
 -- Of two values that are not negative the larger has the root that is no smaller: `rooted_mono`. It holds in either format, of zeros of either sign,
 -- subnormal values and the infinity. So the root of a value that is not negative is not negative, and no NaN. Assumes nothing.
-use Rattle.std.specs.Prelude.{◌≡◌, ℕ, zero, suc, ◌+◌, ◌-◌, ◌*◌, ◌/◌, ◌%◌, ◌^◌, ◌<◌, ◌≤◌, Bool, true, false, cond, not, ◌&&◌, ◌||◌, T, ◌⊎◌, ℤ, pos, ◌==◌, is_nan, nat_lt, Float}
+use Rattle.std.specs.Prelude.{◌≡◌, ℕ, zero, suc, ◌+◌, ◌-◌, ◌*◌, ◌/◌, ◌%◌, ◌^◌, ◌<◌, ◌≤◌, Bool, true, false, cond, not, ◌&&◌, ◌||◌, T, ◌⊎◌, ℤ, pos, ◌==◌, nat_lt, Float}
 use Rattle.std.proofs.Math.Path.{refl}
 use Rattle.std.proofs.Common.{sym, ap, ◌∙◌, subst, inl, inr, le_refl, le_trans, le_of_eq, le_of_lt, lt_of_le_of_lt, eq-or-lt_of_le, zero-lt-suc, zero-mul, mul-pos, mul_right_comm, mul-le-mul_left, mul-le-mul_right, le-div_iff_mul-le, arith, ltb→lt, lt→ltb, nltb→le, eqb→eq, pow-add, pow_pos, pow_mono}
 use Prim.Native.Nat.{zero-le, compare, Ordering}
 use Rattle.std.specs.Bool.{beq}
 use Rattle.std.proofs.Math.Pow.{shr_mono}
 use Rattle.std.specs.Float.{nan, inf, Format}
-use Rattle.std.specs.Float.Ieee.{fin, prec, emax, low, up, down, size, nearest, odd, units, le}
+use Rattle.std.specs.Float.Ieee.{is_nan, fin, prec, emax, low, up, down, size, nearest, odd, units, le}
 use Rattle.std.specs.Float.Ieee.Digits.{size-lt, size-le, size_reaches}
 use Rattle.std.specs.Float.Ieee.Fits.{two, two-le_pos, nearest-le, kept-lt, up_pos, down_pos, and_l, and_r}
 use Rattle.std.specs.Float.Ieee.Exact.{HasValue, odd_sign}
@@ -163,11 +163,20 @@ zero_le_plain true e (inf false) infinite = tt
 zero_le_plain false e (inf false) infinite = tt
 zero_le_plain true e (fin false m d) finite = zero_first true (0 * up e * down d) (m * up d * down e) (flat e d)
 zero_le_plain false e (fin false m d) finite = zero_first false (0 * up e * down d) (m * up d * down e) (flat e d)
+zero_le_plain false e nan x'' = elim x'' [ ]
+zero_le_plain false e (inf true) x5 = elim x5 [ ]
+zero_le_plain false e (fin true m d) x6 = elim x6 [ ]
+zero_le_plain true e nan x3 = elim x3 [ ]
+zero_le_plain true e (inf true) x6 = elim x6 [ ]
+zero_le_plain true e (fin true m d) x7 = elim x7 [ ]
 
 plain_le_inf : (v : Float) → Plain v → T (le v (inf false))
 unfolding le
 plain_le_inf (inf false) infinite = tt
 plain_le_inf (fin false m e) finite = tt
+plain_le_inf nan x' = elim x' [ ]
+plain_le_inf (inf true) x4 = elim x4 [ ]
+plain_le_inf (fin true m e) x5 = elim x5 [ ]
 
 -- ---- the law
 scaled_mono : (f : Format) (m : ℕ) (e : ℤ) (n : ℕ) (d : ℤ) → m * up e * down d ≤ n * up d * down e → scaled f m e ≤ scaled f n d

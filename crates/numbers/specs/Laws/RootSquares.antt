@@ -36,6 +36,8 @@ root_held f x g = go x g.kind g.fit
     go (fin false (suc m) e) some h =
         let r = rooted_nearest f m e h in
         record { kind = of_value _ _ _ r.value.1; fit = r.value.0 }
+    go (inf true) x6 h = elim x6 [ ]
+    go (fin true _ e) x9 h = elim x9 [ ]
 
 value_number : (x : Float) (a c : ℕ) → HasValue x false a c → is_nan x ≡ false
 unfolding is_nan
@@ -53,6 +55,8 @@ root_nan f x g = go x g.kind g.fit
     go (fin false (suc m) e) some h =
         let r = rooted_nearest f m e h in
         value_number _ _ _ r.value.1 ∙ (unfold is_nan in refl)
+    go (inf true) x6 h = elim x6 [ ]
+    go (fin true _ e) x9 h = elim x9 [ ]
 
 -- ---- the order
 

@@ -32,6 +32,9 @@ round_plain f n d =
 of_plain : (x : Float) → Plain x → Square x
 of_plain (inf false) infinite = far
 of_plain (fin false m e) whole = some
+of_plain nan x'' = elim x'' [ ]
+of_plain (inf true) x5 = elim x5 [ ]
+of_plain (fin true m e) x6 = elim x6 [ ]
 
 round_square : (f : Format) (n d : ℕ) → Square (round f false n d)
 round_square f n d = of_plain (round f false n d) (round_plain f n d)
@@ -53,6 +56,12 @@ add_square f (inf false) (fin false n d) far some = far
 add_square f (fin false m e) nan some none = none
 add_square f (fin false m e) (inf false) some far = far
 add_square f (fin false m e) (fin false n d) some some = round_square f (m * up e * down d + n * up d * down e) (down e * down d)
+add_square f (inf false) (inf true) _ q = elim q [ ]
+add_square f (inf false) (fin true n d) _ q = elim q [ ]
+add_square f (inf true) y x6 q = elim x6 [ ]
+add_square f (fin false m e) (inf true) _ q = elim q [ ]
+add_square f (fin false m e) (fin true n d) _ q = elim q [ ]
+add_square f (fin true m e) y x7 q = elim x7 [ ]
 
 -- ---- where it is NaN: just where a term is, and a term just where its root is
 
@@ -60,6 +69,9 @@ plain_number : (x : Float) → Plain x → is_nan x ≡ false
 unfolding is_nan
 plain_number (inf false) infinite = refl
 plain_number (fin false m e) whole = refl
+plain_number nan x'' = elim x'' [ ]
+plain_number (inf true) x5 = elim x5 [ ]
+plain_number (fin true m e) x6 = elim x6 [ ]
 
 round_number : (f : Format) (s : Bool) (n d : ℕ) → is_nan (round f s n d) ≡ false
 round_number f s n d = go s (plain_number (round f false n d) (round_plain f n d))
@@ -92,6 +104,12 @@ is_nan_add f (inf false) (fin false n d) far some = refl
 is_nan_add f (fin false m e) nan some none = refl
 is_nan_add f (fin false m e) (inf false) some far = refl
 is_nan_add f (fin false m e) (fin false n d) some some = sum_number f false (m * up e * down d) false (n * up d * down e) (down e * down d)
+is_nan_add f (inf false) (inf true) _ q = elim q [ ]
+is_nan_add f (inf false) (fin true n d) _ q = elim q [ ]
+is_nan_add f (inf true) y x6 q = elim x6 [ ]
+is_nan_add f (fin false m e) (inf true) _ q = elim q [ ]
+is_nan_add f (fin false m e) (fin true n d) _ q = elim q [ ]
+is_nan_add f (fin true m e) y x7 q = elim x7 [ ]
 
 -- from a finite place
 pub is_nan_sub : (f : Format) (x y : Float) → finite x ≡ true → is_nan (sub f x y) ≡ is_nan y
@@ -138,6 +156,12 @@ not_below (fin false m e) (inf false) some far p r t = unfold lt in absurd (true
 not_below (fin false m e) (fin false n d) some some p r t =
     let h : n * up d * down e ≤ m * up e * down d = unfold lt in ltb-false (m * up e * down d) (n * up d * down e) t in
     le_of_values (fin false n d) (fin false m e) (n * up d) (down d) (m * up e) (down e) (down_pos d) (down_pos e) (refl, refl) (refl, refl) h
+not_below (inf false) (inf true) _ q p r t = elim q [ ]
+not_below (inf false) (fin true n d) _ q p r t = elim q [ ]
+not_below (inf true) y x9 q p r t = elim x9 [ ]
+not_below (fin false m e) (inf true) _ q p r t = elim q [ ]
+not_below (fin false m e) (fin true n d) _ q p r t = elim q [ ]
+not_below (fin true m e) y x10 q p r t = elim x10 [ ]
 
 pub le_not : (x y : Float) → Square x → Square y → T (le x y) → lt y x ≡ false
 unfolding le lt
@@ -148,6 +172,12 @@ le_not (inf false) (fin false n d) far some t = absurd t
 le_not (fin false m e) nan some none t = absurd t
 le_not (fin false m e) (inf false) some far t = refl
 le_not (fin false m e) (fin false n d) some some t = le-ltb (n * up d * down e) (m * up e * down d) (crossed (m * up e * down d) (n * up d * down e) t)
+le_not (inf false) (inf true) _ q t = elim q [ ]
+le_not (inf false) (fin true n d) _ q t = elim q [ ]
+le_not (inf true) y x7 q t = elim x7 [ ]
+le_not (fin false m e) (inf true) _ q t = elim q [ ]
+le_not (fin false m e) (fin true n d) _ q t = elim q [ ]
+le_not (fin true m e) y x8 q t = elim x8 [ ]
 
 pub le_trans : (x y z : Float) → Square x → Square y → Square z → T (le x y) → T (le y z) → T (le x z)
 le_trans nan y z none q s a b = unfold le in absurd a
@@ -164,6 +194,16 @@ le_trans (fin false m e) (fin false n d) (fin false k g) some some some a b =
     le_of_values (fin false m e) (fin false k g) (m * up e) (down e) (k * up g) (down g) (down_pos e) (down_pos g) (refl, refl) (refl, refl)
     (through (m * up e) (n * up d) (k * up g) (down e) (down d) (down g) (down_pos d)
     (crossed (m * up e * down d) (n * up d * down e) (unfold le in a)) (crossed (n * up d * down g) (k * up g * down d) (unfold le in b)))
+le_trans (inf false) (inf true) z _ q s a b = elim q [ ]
+le_trans (inf false) (fin true n d) z _ q s a b = elim q [ ]
+le_trans (inf true) y z x9 q s a b = elim x9 [ ]
+le_trans (fin false m e) (inf false) (inf true) _ q s a b = elim s [ ]
+le_trans (fin false m e) (inf false) (fin true k g) _ q s a b = elim s [ ]
+le_trans (fin false m e) (inf true) z _ q s a b = elim q [ ]
+le_trans (fin false m e) (fin false n d) (inf true) _ q s a b = elim s [ ]
+le_trans (fin false m e) (fin false n d) (fin true k g) _ q s a b = elim s [ ]
+le_trans (fin false m e) (fin true n d) z _ q s a b = elim q [ ]
+le_trans (fin true m e) y z x10 q s a b = elim x10 [ ]
 
 pub not_negative : (x : Float) → Square x → is_nan x ≡ false → T (le (fin false 0 (pos 0)) x)
 not_negative x q r = not_below x (fin false 0 (pos 0)) q some r (unfold is_nan in refl) (above_zero x q)
@@ -172,6 +212,8 @@ not_negative x q r = not_below x (fin false 0 (pos 0)) q some r (unfold is_nan i
     above_zero nan none = unfold lt in refl
     above_zero (inf false) far = unfold lt in refl
     above_zero (fin false m e) some = unfold lt in le-ltb (m * up e * 1) (0 * down e) (omega (arith, zero-mul (down e)))
+    above_zero (inf true) x5 = elim x5 [ ]
+    above_zero (fin true m e) x6 = elim x6 [ ]
 
 -- ---- equal values are one: the format writes them with the same bits
 
@@ -198,3 +240,9 @@ equal_is_same f (fin false m e) nan some none a b t = unfold eq in absurd t
 equal_is_same f (fin false m e) (inf false) some far a b t = unfold eq in absurd t
 equal_is_same f (fin false m e) (fin false n d) some some a b t =
     sym (of_bits-to_bits f (fin false m e) a) ∙ ap (from_bits f) (same_bits f m e n d t) ∙ of_bits-to_bits f (fin false n d) b
+equal_is_same f (inf false) (inf true) _ q a b t = elim q [ ]
+equal_is_same f (inf false) (fin true n d) _ q a b t = elim q [ ]
+equal_is_same f (inf true) y x9 q a b t = elim x9 [ ]
+equal_is_same f (fin false m e) (inf true) _ q a b t = elim q [ ]
+equal_is_same f (fin false m e) (fin true n d) _ q a b t = elim q [ ]
+equal_is_same f (fin true m e) y x10 q a b t = elim x10 [ ]
