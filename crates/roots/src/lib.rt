@@ -1,6 +1,8 @@
 // Document 01, "Arithmetic": the square root of an f32 and of an f64, correctly rounded to nearest even, of every pattern: below zero gives NaN, -0 gives -0.
 // One function on bit patterns serves both formats. It normalises by counting leading zeros, and takes one integer root, by a guess that is put right
 // and one division. The source calls the machine's `sqrt`, which the logic does not have.
+#![tactic(auto)]
+
 ghost use Rattle.std.specs.Prelude.{◌≡◌, ◌+◌, ◌-◌, ◌*◌, ◌^◌, ◌≤◌, ◌<◌};
 ghost use Rattle.std.specs.Float.{binary32, binary64};
 ghost use Rattle.numbers.specs.Arithmetic.{rooted};
