@@ -1,5 +1,7 @@
 // Document 01, "Arithmetic": the functions. Each is total, and its contract is an equation with a definition of the crate `numbers`. The square root has
 // a crate of its own, `roots`, and is passed on.
+#![tactic(auto)]
+
 mod exponential;
 mod narrowing;
 mod patterns;

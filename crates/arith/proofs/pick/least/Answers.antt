@@ -1,0 +1,10 @@
+-- `arith::least`: the definition picks by the same two tests, since only a NaN differs from itself. Assumes nothing.
+use Rattle.std.proofs.Common.{sym, ◌∙◌}
+use Rattle.numbers.specs.Laws.Comparing.{ne_itself}
+use Rattle.arith.proofs.pick.least.Goals as goal
+
+pub returns-then-x : goal.returns-then-x
+returns-then-x c = rw (sym (ne_itself c.args.x) ∙ c.if-x.true) c.canonical64.ensures
+
+pub returns : goal.returns
+returns c = rw (sym (ne_itself c.args.x) ∙ c.if-x.false, c.if-y-x.false)
