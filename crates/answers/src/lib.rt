@@ -4,7 +4,7 @@ ghost use Rattle.std.specs.Prelude.{◌≡◌};
 ghost use Rattle.answers.specs.Answers.{number_of, refused};
 
 // Acceptance, or why a call is refused, in the order of checking.
-#[derive(Drop)]
+#[derive(Clone, Copy)]
 pub enum Verdict {
     Pass,
     PointSlice,
@@ -20,7 +20,7 @@ pub enum Verdict {
 }
 
 // The answer. Vertices, faces, low and high are those of the mesh that is returned, after trimming.
-#[derive(Drop)]
+#[derive(Clone, Copy)]
 pub struct Answer {
     pub number: u32,
     pub usable: usize,

@@ -5,7 +5,7 @@ ghost use Rattle.std.specs.Prelude.{◌<◌, ◌≤◌, length};
 
 use libc::{STDIN_FILENO, STDOUT_FILENO};
 
-#[derive(Drop)]
+#[derive(Clone, Copy)]
 enum Operation {
     Root32,
     Root64,
@@ -90,7 +90,7 @@ fn replayed(name: &[u8], argument: &[u8], wanted: &[u8]) -> u64
 }
 
 // What is known after a line: where the next one starts, whether there was one, and whether it differed.
-#[derive(Drop)]
+#[derive(Clone, Copy)]
 struct Step {
     next: usize,
     lines: u64,

@@ -9,7 +9,7 @@ ghost use Rattle.blur.specs.Words.{plus_times, across, Reach, FirstOutside};
 use grid::{Grid, Node};
 
 // A place on a side of the grid, or none.
-#[derive(Drop)]
+#[derive(Clone, Copy)]
 pub enum Place {
     At(usize),
     Outside,

@@ -4,7 +4,7 @@ ghost use Rattle.blur.specs.Blur.{sigma_of, radius_of, weight_of, reach_of};
 ghost use Rattle.blur.specs.Words.{KernelOf};
 
 // How far the blur reaches, and its weights from minus the radius to the radius; behind them the array holds +0.0, and is not read.
-#[derive(Drop)]
+#[derive(Clone, Copy)]
 pub struct Kernel {
     pub radius: usize,
     pub weights: [f32; 37],

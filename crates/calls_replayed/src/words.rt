@@ -15,7 +15,7 @@ fn trimming(flag: u64, distance: f32) -> Trimming {
     Trimming::Within(distance)
 }
 
-#[derive(Drop)]
+#[derive(Clone, Copy)]
 pub struct Told {
     pub settings: Settings,
     pub next: usize,
@@ -46,7 +46,7 @@ pub fn read_settings(text: &[u8], at: usize) -> Told
     }
 }
 
-#[derive(Drop)]
+#[derive(Clone, Copy)]
 pub struct Lent {
     pub lengths: [usize; 11],
     pub next: usize,

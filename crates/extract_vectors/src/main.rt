@@ -19,7 +19,7 @@ use words::{read_header, read_values, skip_word};
 // ---- what differs
 
 // Where the next word is, and how many numbers, or grids, differed.
-#[derive(Drop)]
+#[derive(Clone, Copy)]
 struct Compared {
     next: usize,
     differ: u64,
@@ -280,7 +280,7 @@ fn replay_grid(text: &[u8], at: usize, grid: u64) -> Compared
 // ---- the list
 
 // What is known after a word: where the next one is, whether it began a grid, and whether that differed.
-#[derive(Drop)]
+#[derive(Clone, Copy)]
 struct Step {
     next: usize,
     grids: u64,

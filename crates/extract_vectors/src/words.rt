@@ -18,7 +18,7 @@ fn single(pattern: u64) -> f32 {
 }
 
 // Three counts, and the place past them.
-#[derive(Drop)]
+#[derive(Clone, Copy)]
 struct Sides {
     counts: [usize; 3],
     next: usize,
@@ -38,7 +38,7 @@ fn read_sides(text: &[u8], at: usize) -> Sides
 }
 
 // A place, and the place in the text past it.
-#[derive(Drop)]
+#[derive(Clone, Copy)]
 struct Origin {
     place: [f64; 3],
     next: usize,
@@ -62,7 +62,7 @@ fn read_origin(text: &[u8], at: usize) -> Origin
 }
 
 // A grid's first line, and the word `values` of its second.
-#[derive(Drop)]
+#[derive(Clone, Copy)]
 pub struct Header {
     pub lattice: Lattice,
     pub iso: f32,

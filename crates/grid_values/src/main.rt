@@ -8,7 +8,7 @@ use libc::STDOUT_FILENO;
 
 // ---- the values of the nodes, by a rule of whole numbers
 
-#[derive(Drop)]
+#[derive(Clone, Copy)]
 enum Values {
     // (m - 48)/8, where m = (37·q + 11) mod 101 at node q.
     Plain,

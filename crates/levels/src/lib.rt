@@ -14,7 +14,7 @@ use crate::rising::all_levels;
 use grid::Grid;
 
 // What is solved on every level: the cube, how the right side is smoothed, and when to stop.
-#[derive(Drop)]
+#[derive(Clone, Copy)]
 pub struct Problem {
     pub origin: [f64; 3],
     pub size: f64,

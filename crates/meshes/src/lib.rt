@@ -10,14 +10,14 @@ pub use vertex_box::bounds;
 pub use vertices::{triple_at, vertex_at};
 
 // How many vertices and how many faces there are.
-#[derive(Drop)]
+#[derive(Clone, Copy)]
 pub struct MeshSize {
     pub vertices: usize,
     pub faces: usize,
 }
 
 // The low and the high corner of the box of the vertices.
-#[derive(Drop)]
+#[derive(Clone, Copy)]
 pub struct VertexBox {
     pub low: [f32; 3],
     pub high: [f32; 3],

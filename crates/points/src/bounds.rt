@@ -6,7 +6,7 @@ ghost use Rattle.points.specs.Box.{reached, bounds_of, extent_of, side_of, origi
 use crate::point::Point;
 
 // A box, from low to high.
-#[derive(Drop)]
+#[derive(Clone, Copy)]
 pub struct Bounds {
     pub lo: [f64; 3],
     pub hi: [f64; 3],

@@ -7,14 +7,14 @@ ghost use Rattle.points.specs.Points.{given, point_at, squares_of, length_of, le
 ghost use Rattle.points.specs.Points.{usability_of, is_usable, usable_of, position_of, unit_of, usables};
 
 // A position and a normal.
-#[derive(Drop)]
+#[derive(Clone, Copy)]
 pub struct Point {
     pub at: [f32; 3],
     pub normal: [f32; 3],
 }
 
 // Why a point is skipped, in the order of checking; or that it is not.
-#[derive(Drop)]
+#[derive(Clone, Copy)]
 pub enum Usability {
     Usable,
     PositionNotFinite,

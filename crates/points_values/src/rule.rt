@@ -5,7 +5,7 @@ ghost use Rattle.std.specs.Prelude.{◌<◌, ◌≤◌, length, ◌≡◌};
 use points::Point;
 
 // How the points stand, and which normals they have.
-#[derive(Drop)]
+#[derive(Clone, Copy)]
 pub enum Stand {
     // Coordinates m/256 - 128, m of 16 bits.
     Spread,
@@ -26,7 +26,7 @@ pub enum Stand {
 }
 
 // How they stand, and how many of the points 3, 7, 11.. are spoilt.
-#[derive(Drop)]
+#[derive(Clone, Copy)]
 pub struct Case {
     pub stand: Stand,
     pub spoilt: usize,

@@ -3,7 +3,7 @@ ghost use Rattle.std.specs.Prelude.{◌≡◌, true, false, ◌+◌, ◌≤◌, 
 ghost use Rattle.replay.specs.Words.{blank, leading, digit_of, hex_of, decimal_of, end_of, word_of};
 
 // A word's first place, and the place past its last byte.
-#[derive(Drop)]
+#[derive(Clone, Copy)]
 pub struct Word {
     pub from: usize,
     pub to: usize,
@@ -90,7 +90,7 @@ pub fn decimal(text: &[u8]) -> u64
 }
 
 // A number, and the place past its word.
-#[derive(Drop)]
+#[derive(Clone, Copy)]
 pub struct Number {
     pub value: u64,
     pub next: usize,

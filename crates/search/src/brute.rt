@@ -10,7 +10,7 @@ ghost use Rattle.search.specs.Words.{least_with, open_to, least_map};
 use points::{Point, squares};
 
 // The two smallest numbers of a list, or all if it has fewer.
-#[derive(Drop)]
+#[derive(Clone, Copy)]
 pub enum Least {
     Empty,
     One(f32),

@@ -12,7 +12,7 @@ use crate::brute::{Least, nearest};
 use points::{Point, usable_count};
 
 // A distance, or none.
-#[derive(Drop)]
+#[derive(Clone, Copy)]
 pub enum Gap {
     Found(f32),
     Nothing,

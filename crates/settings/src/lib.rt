@@ -8,14 +8,14 @@ ghost use Rattle.settings.specs.Settings.{defaults};
 pub use checks::{early, extent_verdict, mesh_verdict, nodes, room_verdict, usable_verdict};
 
 // "Trimming is either off or within a distance." The Rust has an `Option<f32>`.
-#[derive(Drop)]
+#[derive(Clone, Copy)]
 pub enum Trimming {
     Off,
     Within(f32),
 }
 
 // The settings record holds this choice whole.
-#[derive(Drop)]
+#[derive(Clone, Copy)]
 pub struct Settings {
     pub depth: u32,
     pub smoothing: f32,
@@ -42,7 +42,7 @@ impl Settings {
 }
 
 // How long each lent slice is: the two result slices, the seven scratch slices over nodes, the one over edges and the one over given points.
-#[derive(Drop)]
+#[derive(Clone, Copy)]
 pub struct Lengths {
     pub vertices: usize,
     pub faces: usize,

@@ -11,7 +11,7 @@ use points::Point;
 use settings::{Settings, Trimming};
 
 // What stands before the points, how many there are, and where they start.
-#[derive(Drop)]
+#[derive(Clone, Copy)]
 pub struct Header {
     pub settings: Settings,
     pub count: usize,
@@ -19,7 +19,7 @@ pub struct Header {
 }
 
 // A sheet of the wrong length or with too many points; one whose depth the preview leaves to the library's other callers; and one to go on with.
-#[derive(Drop)]
+#[derive(Clone, Copy)]
 pub enum Sheet {
     Wrong,
     Deep,

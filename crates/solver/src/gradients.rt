@@ -10,7 +10,7 @@ use laplacian::apply;
 use vectors::{advance, copy, dot, less, squares, xpay};
 
 // What a turn answers: that no later turn changes x, or to go on with this rr.
-#[derive(Drop)]
+#[derive(Clone, Copy)]
 pub enum Turn {
     Done,
     On(f64),
