@@ -93,7 +93,7 @@ impl Grid {
         at_end(n, row % n)
     }
 
-    // The place of a position: origin + typeof.count.step along each axis.
+    // The place of a position: origin + count·step along each axis.
     pub fn world(self, at: [usize; 3]) -> [f64; 3]
         requires sides { Sides self.nodes }
         requires position { Position self.nodes self.nodes self.nodes at }

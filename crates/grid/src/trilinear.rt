@@ -75,7 +75,7 @@ impl Grid {
         ])
     }
 
-    // The trilinear value at a place: typeof.weight.value added in corner order, from -0.0 as the Rust's `sum`.
+    // The trilinear value at a place: weight·value added in corner order, from -0.0 as the Rust's `sum`.
     pub fn sample(self, values: &[f32], p: [f64; 3]) -> f64
         requires sides { Sides self.nodes }
         requires values_len { length values.now ≡ all_nodes self }

@@ -1,0 +1,7 @@
+-- `grid::Lattice::node`: the node lies in the block, which has at most 256^3. Assumes nothing.
+use Rattle.std.proofs.Common.{lt_of_lt_of_le, arith}
+use Rattle.grid.specs.Laws.Numbering.{node_below}
+use Rattle.grid.proofs.Lattice.node.Goals as goal
+
+pub node_at-requires : goal.node_at-requires
+node_at-requires c = (omega (arith, c.requires.counts.two_z), lt_of_lt_of_le (node_below c.requires.position) c.requires.counts.most)
