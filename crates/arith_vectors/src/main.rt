@@ -1,9 +1,11 @@
 // Replays a list of worked values through the functions of `arith`, and prints what differs and a count. Each line of `stdin` has an operation,
 // its argument and its answer, as bit patterns. The list was written by a Rust program: square root, narrowing, floor, ceiling, sign and clamp are
 // Rust's own, the exponential is 01's rule. Where Rust hands a NaN's payload through, the answer was rewritten as 01 stores it.
-ghost use Rattle.std.specs.Prelude.{◌<◌, ◌≤◌, length};
+#![tactic(auto)]
 
-use libc::{STDIN_FILENO, STDOUT_FILENO};
+ghost use Rattle.std.specs.Prelude.{◌<◌, ◌≤◌, length, IfOk};
+
+use std::io;
 
 #[derive(Clone, Copy)]
 enum Operation {
@@ -64,29 +66,24 @@ fn answer(op: Operation, pattern: u64) -> u64 {
     }
 }
 
-fn tell(name: &[u8], pattern: u64, want: u64, got: u64) {
-    io::write_all(STDOUT_FILENO, name);
-    io::write_all(STDOUT_FILENO, b" ");
-    io::print_hex(STDOUT_FILENO, pattern, 16);
-    io::write_all(STDOUT_FILENO, b" should be ");
-    io::print_hex(STDOUT_FILENO, want, 16);
-    io::write_all(STDOUT_FILENO, b", is ");
-    io::print_hex(STDOUT_FILENO, got, 16);
-    io::write_all(STDOUT_FILENO, b"\n");
+fn tell(rt: &impl Print, name: &[u8], pattern: u64, want: u64, got: u64) -> io::Result<()> {
+    rt.write_all(name)?;
+    rt.write_all(b" ")?;
+    println!(rt; "{pattern:016x} should be {want:016x}, is {got:016x}")
 }
 
 // One line: 1 where the answer differs, else 0.
-fn replayed(name: &[u8], argument: &[u8], wanted: &[u8]) -> u64
-    ensures { result ≤ 1 }
+fn replayed(rt: &impl Print, name: &[u8], argument: &[u8], wanted: &[u8]) -> io::Result<u64>
+    ensures { IfOk result (λ differ. differ ≤ 1) }
 {
     let pattern = replay::hex(argument);
     let want = replay::hex(wanted);
     let got = answer(named(name), pattern);
     if got == want {
-        return 0;
+        return Ok(0);
     }
-    tell(name, pattern, want, got);
-    1
+    tell(rt, name, pattern, want, got)?;
+    Ok(1)
 }
 
 // What is known after a line: where the next one starts, whether there was one, and whether it differed.
@@ -97,19 +94,19 @@ struct Step {
     differ: u64,
 }
 
-fn replay_line(text: &[u8], at: usize) -> Step
+fn replay_line(rt: &impl Print, text: &[u8], at: usize) -> io::Result<Step>
     requires { at < length text.now }
-    ensures { (at < result.next) × (result.next ≤ length text.now) × (result.lines ≤ 1) × (result.differ ≤ 1) }
+    ensures { IfOk result (λ step. (at < step.next) × (step.next ≤ length text.now) × (step.lines ≤ 1) × (step.differ ≤ 1)) }
 {
     let name = replay::next_word(text, at);
     let from = name.from;
     let to = name.to;
     if to <= from {
-        return Step {
+        return Ok(Step {
             next: text.len(),
             lines: 0,
             differ: 0,
-        };
+        });
     }
     let argument = replay::next_word(text, to);
     let a = argument.from;
@@ -117,31 +114,29 @@ fn replay_line(text: &[u8], at: usize) -> Step
     let wanted = replay::next_word(text, b);
     let c = wanted.from;
     let d = wanted.to;
-    Step {
+    let differ = replayed(rt, &text[from..to], &text[a..b], &text[c..d])?;
+    Ok(Step {
         next: d,
         lines: 1,
-        differ: replayed(&text[from..to], &text[a..b], &text[c..d]),
-    }
+        differ,
+    })
 }
 
-fn replay_all(text: &[u8]) {
+fn replay_all(rt: &impl Print, text: &[u8]) -> io::Result<()> {
     let mut at = 0usize;
     let mut lines = 0u64;
     let mut differ = 0u64;
     while at < text.len() {
-        let step = replay_line(text, at);
+        let step = replay_line(rt, text, at)?;
         at = step.next;
         lines += step.lines;
         differ += step.differ;
     }
-    io::print_decimal(STDOUT_FILENO, lines);
-    io::write_all(STDOUT_FILENO, b" values, ");
-    io::print_decimal(STDOUT_FILENO, differ);
-    io::write_all(STDOUT_FILENO, b" differ\n");
+    println!(rt; "{lines} values, {differ} differ")
 }
 
-fn main() {
+fn main(rt: HostRuntime) -> io::Result<()> {
     let mut text = [0u8; 131072];
-    let n = io::read_full(STDIN_FILENO, &mut text);
-    replay_all(&text[..n]);
+    let n = input::read_full(&rt, &mut text)?;
+    replay_all(&rt, &text[..n])
 }

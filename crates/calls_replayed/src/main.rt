@@ -5,10 +5,10 @@
 mod tell;
 mod words;
 
-ghost use Rattle.std.specs.Prelude.{◌<◌, ◌≤◌, length};
+ghost use Rattle.std.specs.Prelude.{◌<◌, ◌≤◌, length, IfOk};
 
 use answers::Answer;
-use libc::{STDIN_FILENO, STDOUT_FILENO};
+use std::io;
 use replay::read_decimal;
 use settings::Settings;
 use tell::{
@@ -29,6 +29,7 @@ fn triples(count: usize) -> usize {
 
 // The answer, the mesh as two digests, and what is not zero past V and F and in all scratch.
 fn report(
+    rt: &impl Print,
     answer: Answer,
     vertices: &[f32],
     faces: &[u32],
@@ -41,29 +42,30 @@ fn report(
     s6: &[f32],
     edges: &[u32],
     distances: &[f32],
-) {
+) -> io::Result<()> {
     let v = triples(answer.vertices);
     let f = triples(answer.faces);
-    tell_answer(answer);
-    tell_digest(b"hash-vertices ", digest_f32(vertices, v));
-    tell_digest(b"hash-faces ", digest_u32(faces, f));
-    io::write_all(STDOUT_FILENO, b"left");
-    tell_count(left_f32(vertices, v));
-    tell_count(left_u32(faces, f));
-    tell_count(left_f32(s0, 0));
-    tell_count(left_f32(s1, 0));
-    tell_count(left_f32(s2, 0));
-    tell_count(left_f32(s3, 0));
-    tell_count(left_f32(s4, 0));
-    tell_count(left_f32(s5, 0));
-    tell_count(left_f32(s6, 0));
-    tell_count(left_u32(edges, 0));
-    tell_count(left_f32(distances, 0));
-    io::write_all(STDOUT_FILENO, b"\n");
+    tell_answer(rt, answer)?;
+    tell_digest(rt, b"hash-vertices ", digest_f32(vertices, v))?;
+    tell_digest(rt, b"hash-faces ", digest_u32(faces, f))?;
+    rt.write_all(b"left")?;
+    tell_count(rt, left_f32(vertices, v))?;
+    tell_count(rt, left_u32(faces, f))?;
+    tell_count(rt, left_f32(s0, 0))?;
+    tell_count(rt, left_f32(s1, 0))?;
+    tell_count(rt, left_f32(s2, 0))?;
+    tell_count(rt, left_f32(s3, 0))?;
+    tell_count(rt, left_f32(s4, 0))?;
+    tell_count(rt, left_f32(s5, 0))?;
+    tell_count(rt, left_f32(s6, 0))?;
+    tell_count(rt, left_u32(edges, 0))?;
+    tell_count(rt, left_f32(distances, 0))?;
+    rt.write_all(b"\n")
 }
 
 // A call in slices of the recorded lengths.
 fn ask(
+    rt: &impl Print,
     points: &[f32],
     settings: Settings,
     vertices: &mut [f32],
@@ -77,13 +79,14 @@ fn ask(
     s6: &mut [f32],
     edges: &mut [u32],
     distances: &mut [f32],
-) {
+) -> io::Result<()> {
     let answer = poisson::poisson_reconstruction(
         points, settings, vertices, faces, s0, s1, s2, s3, s4, s5, s6, edges, distances,
     );
     report(
+        rt,
         answer, vertices, faces, s0, s1, s2, s3, s4, s5, s6, edges, distances,
-    );
+    )
 }
 
 // The smaller: the list asks for no more room than there is.
@@ -95,6 +98,7 @@ fn at_most(n: usize, room: usize) -> usize
 
 // Cuts the seven grids to their recorded lengths.
 fn cut_grids(
+    rt: &impl Print,
     points: &[f32],
     settings: Settings,
     lengths: [usize; 11],
@@ -109,7 +113,7 @@ fn cut_grids(
     s6: &mut [f32],
     edges: &mut [u32],
     distances: &mut [f32],
-) {
+) -> io::Result<()> {
     let n0 = at_most(lengths[0], s0.len());
     let n1 = at_most(lengths[1], s1.len());
     let n2 = at_most(lengths[2], s2.len());
@@ -118,6 +122,7 @@ fn cut_grids(
     let n5 = at_most(lengths[5], s5.len());
     let n6 = at_most(lengths[6], s6.len());
     ask(
+        rt,
         points,
         settings,
         vertices,
@@ -131,11 +136,12 @@ fn cut_grids(
         &mut s6[..n6],
         edges,
         distances,
-    );
+    )
 }
 
 // Cuts the other slices to theirs.
 fn cut(
+    rt: &impl Print,
     points: &[f32],
     settings: Settings,
     lengths: [usize; 11],
@@ -150,12 +156,13 @@ fn cut(
     s6: &mut [f32],
     edges: &mut [u32],
     distances: &mut [f32],
-) {
+) -> io::Result<()> {
     let e = at_most(lengths[7], edges.len());
     let d = at_most(lengths[8], distances.len());
     let v = at_most(lengths[9], vertices.len());
     let f = at_most(lengths[10], faces.len());
     cut_grids(
+        rt,
         points,
         settings,
         lengths,
@@ -170,11 +177,11 @@ fn cut(
         s6,
         &mut edges[..e],
         &mut distances[..d],
-    );
+    )
 }
 
 // Room for grids of depth 5, full of rubbish.
-fn lend(points: &[f32], settings: Settings, lengths: [usize; 11]) {
+fn lend(rt: &impl Print, points: &[f32], settings: Settings, lengths: [usize; 11]) -> io::Result<()> {
     let mut vertices = [0.5f32; 32768];
     let mut faces = [7u32; 65536];
     let mut s0 = [0.5f32; 32768];
@@ -187,6 +194,7 @@ fn lend(points: &[f32], settings: Settings, lengths: [usize; 11]) {
     let mut edges = [7u32; 98304];
     let mut distances = [0.5f32; 512];
     cut(
+        rt,
         points,
         settings,
         lengths,
@@ -201,7 +209,7 @@ fn lend(points: &[f32], settings: Settings, lengths: [usize; 11]) {
         &mut s6,
         &mut edges,
         &mut distances,
-    );
+    )
 }
 
 // ---- the field of a call
@@ -219,6 +227,7 @@ fn nodes(number: u32, depth: u32) -> usize {
 
 // The answer, the values as a digest, what is not zero past them and in all scratch, and the first values in full.
 fn report_field(
+    rt: &impl Print,
     answer: Answer,
     n: usize,
     shown: usize,
@@ -232,26 +241,27 @@ fn report_field(
     s6: &[f32],
     edges: &[u32],
     distances: &[f32],
-) {
-    tell_field_answer(answer);
-    tell_digest(b"hash-field ", digest_f32(field, n));
-    io::write_all(STDOUT_FILENO, b"field-left");
-    tell_count(left_f32(field, n));
-    tell_count(left_f32(s0, 0));
-    tell_count(left_f32(s1, 0));
-    tell_count(left_f32(s2, 0));
-    tell_count(left_f32(s3, 0));
-    tell_count(left_f32(s4, 0));
-    tell_count(left_f32(s5, 0));
-    tell_count(left_f32(s6, 0));
-    tell_count(left_u32(edges, 0));
-    tell_count(left_f32(distances, 0));
-    io::write_all(STDOUT_FILENO, b"\n");
-    tell_values(field, shown);
+) -> io::Result<()> {
+    tell_field_answer(rt, answer)?;
+    tell_digest(rt, b"hash-field ", digest_f32(field, n))?;
+    rt.write_all(b"field-left")?;
+    tell_count(rt, left_f32(field, n))?;
+    tell_count(rt, left_f32(s0, 0))?;
+    tell_count(rt, left_f32(s1, 0))?;
+    tell_count(rt, left_f32(s2, 0))?;
+    tell_count(rt, left_f32(s3, 0))?;
+    tell_count(rt, left_f32(s4, 0))?;
+    tell_count(rt, left_f32(s5, 0))?;
+    tell_count(rt, left_f32(s6, 0))?;
+    tell_count(rt, left_u32(edges, 0))?;
+    tell_count(rt, left_f32(distances, 0))?;
+    rt.write_all(b"\n")?;
+    tell_values(rt, field, shown)
 }
 
 // The field alone.
 fn ask_field(
+    rt: &impl Print,
     points: &[f32],
     settings: Settings,
     shown: usize,
@@ -265,18 +275,19 @@ fn ask_field(
     s6: &mut [f32],
     edges: &mut [u32],
     distances: &mut [f32],
-) {
+) -> io::Result<()> {
     let answer = poisson::poisson_field(
         points, settings, field, s0, s1, s2, s3, s4, s5, s6, edges, distances,
     );
     let n = nodes(answer.number, settings.depth);
     report_field(
+        rt,
         answer, n, shown, field, s0, s1, s2, s3, s4, s5, s6, edges, distances,
-    );
+    )
 }
 
 // Room for grids of depth 5, full of rubbish.
-fn lend_field(points: &[f32], settings: Settings, shown: usize) {
+fn lend_field(rt: &impl Print, points: &[f32], settings: Settings, shown: usize) -> io::Result<()> {
     let mut field = [0.5f32; 32768];
     let mut s0 = [0.5f32; 32768];
     let mut s1 = [0.5f32; 32768];
@@ -288,6 +299,7 @@ fn lend_field(points: &[f32], settings: Settings, shown: usize) {
     let mut edges = [7u32; 98304];
     let mut distances = [0.5f32; 512];
     ask_field(
+        rt,
         points,
         settings,
         shown,
@@ -301,40 +313,41 @@ fn lend_field(points: &[f32], settings: Settings, shown: usize) {
         &mut s6,
         &mut edges,
         &mut distances,
-    );
+    )
 }
 
 // ---- the list
 
 // The mesh, then the field.
-fn both(points: &[f32], settings: Settings, shown: usize, lengths: [usize; 11]) {
-    lend(points, settings, lengths);
-    lend_field(points, settings, shown);
+fn both(rt: &impl Print, points: &[f32], settings: Settings, shown: usize, lengths: [usize; 11]) -> io::Result<()> {
+    lend(rt, points, settings, lengths)?;
+    lend_field(rt, points, settings, shown)
 }
 
 // How many numbers the points have, then the numbers.
 fn take_points(
+    rt: &impl Print,
     text: &[u8],
     at: usize,
     settings: Settings,
     shown: usize,
     lengths: [usize; 11],
     points: &mut [f32],
-) -> usize
+) -> io::Result<usize>
     requires { at ≤ length text.now }
-    ensures { (at ≤ result) × (result ≤ length text.now) }
+    ensures { IfOk result (λ next. (at ≤ next) × (next ≤ length text.now)) }
 {
     let count = read_decimal(text, at);
     let n = at_most(count.value as usize, points.len());
     let next = read_floats(text, count.next, &mut points[..n]);
-    both(&points[..n], settings, shown, lengths);
-    next
+    both(rt, &points[..n], settings, shown, lengths)?;
+    Ok(next)
 }
 
 // Up to 512 points of six numbers.
-fn replay_call(text: &[u8], at: usize) -> usize
+fn replay_call(rt: &impl Print, text: &[u8], at: usize) -> io::Result<usize>
     requires { at ≤ length text.now }
-    ensures { (at ≤ result) × (result ≤ length text.now) }
+    ensures { IfOk result (λ next. (at ≤ next) × (next ≤ length text.now)) }
 {
     let told = read_settings(text, at);
     let shown = read_decimal(text, told.next);
@@ -343,6 +356,7 @@ fn replay_call(text: &[u8], at: usize) -> usize
     let lengths = lent.lengths;
     let mut points = [0.5f32; 3072];
     take_points(
+        rt,
         text,
         lent.next,
         settings,
@@ -353,31 +367,32 @@ fn replay_call(text: &[u8], at: usize) -> usize
 }
 
 // A call's first word is its name; where there is no word, the list is at its end.
-fn replay_next(text: &[u8], at: usize) -> usize
+fn replay_next(rt: &impl Print, text: &[u8], at: usize) -> io::Result<usize>
     requires { at < length text.now }
-    ensures { (at < result) × (result ≤ length text.now) }
+    ensures { IfOk result (λ next. (at < next) × (next ≤ length text.now)) }
 {
     let word = replay::next_word(text, at);
     let from = word.from;
     let to = word.to;
     if to <= from {
-        return text.len();
+        return Ok(text.len());
     }
-    io::write_all(STDOUT_FILENO, b"call ");
-    io::write_all(STDOUT_FILENO, &text[from..to]);
-    io::write_all(STDOUT_FILENO, b"\n");
-    replay_call(text, to)
+    rt.write_all(b"call ")?;
+    rt.write_all(&text[from..to])?;
+    rt.write_all(b"\n")?;
+    replay_call(rt, text, to)
 }
 
-fn replay_all(text: &[u8]) {
+fn replay_all(rt: &impl Print, text: &[u8]) -> io::Result<()> {
     let mut at = 0usize;
     while at < text.len() {
-        at = replay_next(text, at);
+        at = replay_next(rt, text, at)?;
     }
+    Ok(())
 }
 
-fn main() {
+fn main(rt: HostRuntime) -> io::Result<()> {
     let mut text = [0u8; 393216];
-    let n = io::read_full(STDIN_FILENO, &mut text);
-    replay_all(&text[..n]);
+    let n = input::read_full(&rt, &mut text)?;
+    replay_all(&rt, &text[..n])
 }

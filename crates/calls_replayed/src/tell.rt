@@ -2,81 +2,83 @@
 ghost use Rattle.std.specs.Prelude.{◌<◌, ◌≤◌};
 
 use answers::Answer;
-use libc::STDOUT_FILENO;
+use std::io;
 
 // ---- numbers
 
-fn line(name: &[u8], n: u64) {
-    io::write_all(STDOUT_FILENO, name);
-    io::print_decimal(STDOUT_FILENO, n);
-    io::write_all(STDOUT_FILENO, b"\n");
+fn line(rt: &impl Print, name: &[u8], n: u64) -> io::Result<()> {
+    rt.write_all(name)?;
+    print!(rt; "{n}")?;
+    rt.write_all(b"\n")
 }
 
 // Every NaN prints as 7fc00000: which pattern is stored cannot be seen here.
-fn tell_pattern(x: f32) {
-    io::write_all(STDOUT_FILENO, b" ");
-    io::print_hex(STDOUT_FILENO, arith::pattern32(x) as u64, 8);
+fn tell_pattern(rt: &impl Print, x: f32) -> io::Result<()> {
+    rt.write_all(b" ")?;
+    print!(rt; "{:08x}", arith::pattern32(x))
 }
 
-fn tell_corner(name: &[u8], corner: [f32; 3]) {
-    io::write_all(STDOUT_FILENO, name);
-    tell_pattern(corner[0]);
-    tell_pattern(corner[1]);
-    tell_pattern(corner[2]);
-    io::write_all(STDOUT_FILENO, b"\n");
+fn tell_corner(rt: &impl Print, name: &[u8], corner: [f32; 3]) -> io::Result<()> {
+    rt.write_all(name)?;
+    tell_pattern(rt, corner[0])?;
+    tell_pattern(rt, corner[1])?;
+    tell_pattern(rt, corner[2])?;
+    rt.write_all(b"\n")
 }
 
-pub fn tell_count(n: usize) {
-    io::write_all(STDOUT_FILENO, b" ");
-    io::print_decimal(STDOUT_FILENO, n as u64);
+pub fn tell_count(rt: &impl Print, n: usize) -> io::Result<()> {
+    rt.write_all(b" ")?;
+    print!(rt; "{n}")
 }
 
-pub fn tell_digest(name: &[u8], digest: u64) {
-    io::write_all(STDOUT_FILENO, name);
-    io::print_hex(STDOUT_FILENO, digest, 16);
-    io::write_all(STDOUT_FILENO, b"\n");
+pub fn tell_digest(rt: &impl Print, name: &[u8], digest: u64) -> io::Result<()> {
+    rt.write_all(name)?;
+    print!(rt; "{digest:016x}")?;
+    rt.write_all(b"\n")
 }
 
-pub fn tell_field_answer(answer: Answer) {
-    line(b"field ", answer.number as u64);
-    line(b"field-usable ", answer.usable as u64);
-    io::write_all(STDOUT_FILENO, b"field-level");
-    tell_pattern(answer.level);
-    io::write_all(STDOUT_FILENO, b"\n");
+pub fn tell_field_answer(rt: &impl Print, answer: Answer) -> io::Result<()> {
+    line(rt, b"field ", answer.number as u64)?;
+    line(rt, b"field-usable ", answer.usable as u64)?;
+    rt.write_all(b"field-level")?;
+    tell_pattern(rt, answer.level)?;
+    rt.write_all(b"\n")
 }
 
 // Eight a line.
-fn end_row(i: usize) {
+fn end_row(rt: &impl Print, i: usize) -> io::Result<()> {
     if i % 8 == 7 {
-        io::write_all(STDOUT_FILENO, b"\n");
+        rt.write_all(b"\n")?;
     }
+    Ok(())
 }
 
 // The first `shown` values.
-pub fn tell_values(values: &[f32], shown: usize) {
+pub fn tell_values(rt: &impl Print, values: &[f32], shown: usize) -> io::Result<()> {
     let mut i = 0usize;
     while i < values.len() {
         if shown <= i {
-            return;
+            return Ok(());
         }
-        tell_pattern(values[i]);
-        end_row(i);
+        tell_pattern(rt, values[i])?;
+        end_row(rt, i)?;
         i += 1;
     }
+    Ok(())
 }
 
-pub fn tell_answer(answer: Answer) {
-    line(b"number ", answer.number as u64);
-    line(b"usable ", answer.usable as u64);
-    line(b"vertices ", answer.vertices as u64);
-    line(b"faces ", answer.faces as u64);
-    io::write_all(STDOUT_FILENO, b"level");
-    tell_pattern(answer.level);
-    io::write_all(STDOUT_FILENO, b"\n");
+pub fn tell_answer(rt: &impl Print, answer: Answer) -> io::Result<()> {
+    line(rt, b"number ", answer.number as u64)?;
+    line(rt, b"usable ", answer.usable as u64)?;
+    line(rt, b"vertices ", answer.vertices as u64)?;
+    line(rt, b"faces ", answer.faces as u64)?;
+    rt.write_all(b"level")?;
+    tell_pattern(rt, answer.level)?;
+    rt.write_all(b"\n")?;
     let low = answer.low;
     let high = answer.high;
-    tell_corner(b"low", low);
-    tell_corner(b"high", high);
+    tell_corner(rt, b"low", low)?;
+    tell_corner(rt, b"high", high)
 }
 
 // ---- FNV-1a of 64 bits, over the bytes of the words, least significant first

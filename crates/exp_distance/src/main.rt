@@ -1,8 +1,10 @@
 // Reports how far 01's exponential of -x is from Rust's `exp`, in steps of f32, at x = k/320 for k = 0..4000, that is from 0 to 12.5.
 // `stdin` has Rust's values, one pattern a line, as native/src/bin/exp_distance.rs writes them; that program also runs 13 million values.
+#![tactic(auto)]
+
 ghost use Rattle.std.specs.Prelude.{◌<◌, ◌≤◌};
 
-use libc::{STDIN_FILENO, STDOUT_FILENO};
+use std::io;
 
 // Of two patterns of numbers that are not below zero: how many values lie from one to the other.
 fn steps_between(a: u32, b: u32) -> u32 {
@@ -25,16 +27,11 @@ fn distance(k: u32, word: &[u8]) -> u32 {
     steps_between(ours, rust)
 }
 
-fn report(values: u32, differ: u32, worst: u32) {
-    io::print_decimal(STDOUT_FILENO, values as u64);
-    io::write_all(STDOUT_FILENO, b" values, ");
-    io::print_decimal(STDOUT_FILENO, differ as u64);
-    io::write_all(STDOUT_FILENO, b" differ, the worst by ");
-    io::print_decimal(STDOUT_FILENO, worst as u64);
-    io::write_all(STDOUT_FILENO, b" f32 steps\n");
+fn report(rt: &impl Print, values: u32, differ: u32, worst: u32) -> io::Result<()> {
+    println!(rt; "{values} values, {differ} differ, the worst by {worst} f32 steps")
 }
 
-fn compare(text: &[u8]) {
+fn compare(rt: &impl Print, text: &[u8]) -> io::Result<()> {
     let mut at = 0usize;
     let mut k = 0u32;
     let mut differ = 0u32;
@@ -49,11 +46,11 @@ fn compare(text: &[u8]) {
         at = to;
         k += 1;
     }
-    report(k, differ, worst);
+    report(rt, k, differ, worst)
 }
 
-fn main() {
+fn main(rt: HostRuntime) -> io::Result<()> {
     let mut text = [0u8; 65536];
-    let n = io::read_full(STDIN_FILENO, &mut text);
-    compare(&text[..n]);
+    let n = input::read_full(&rt, &mut text)?;
+    compare(&rt, &text[..n])
 }

@@ -4,14 +4,14 @@
 // sides. The last two grids were added by 01's rule: P12, and 3×3×3 with only the centre below. The slices hold rubbish before each call.
 mod words;
 
-ghost use Rattle.std.specs.Prelude.{◌≡◌, ◌*◌, ◌<◌, ◌≤◌, length};
+ghost use Rattle.std.specs.Prelude.{◌≡◌, ◌*◌, ◌<◌, ◌≤◌, length, IfOk};
 ghost use Rattle.grid.specs.Grid.{Counts};
 ghost use Rattle.cells.specs.Extraction.{count_x, count_y, count_z};
 ghost use Rattle.numbering.specs.Words.{Numberable, Counted};
 ghost use Rattle.extract.specs.Words.{Writable};
 
 use grid::Lattice;
-use libc::{STDIN_FILENO, STDOUT_FILENO};
+use std::io;
 use meshes::MeshSize;
 use replay::{read_decimal, read_hex};
 use words::{read_header, read_values, skip_word};
@@ -31,44 +31,36 @@ fn one_if_any(a: u64, b: u64) -> u64
     if a == 0 && b == 0 { 0 } else { 1 }
 }
 
-fn tell(grid: u64, name: &[u8], i: usize, want: u64, got: u64) {
-    io::write_all(STDOUT_FILENO, b"grid ");
-    io::print_decimal(STDOUT_FILENO, grid);
-    io::write_all(STDOUT_FILENO, name);
-    io::print_decimal(STDOUT_FILENO, i as u64);
-    io::write_all(STDOUT_FILENO, b" should be ");
-    io::print_hex(STDOUT_FILENO, want, 8);
-    io::write_all(STDOUT_FILENO, b", is ");
-    io::print_hex(STDOUT_FILENO, got, 8);
-    io::write_all(STDOUT_FILENO, b"\n");
+fn tell(rt: &impl Print, grid: u64, name: &[u8], i: usize, want: u64, got: u64) -> io::Result<()> {
+    print!(rt; "grid {grid}")?;
+    rt.write_all(name)?;
+    println!(rt; "{i} should be {want:08x}, is {got:08x}")
 }
 
 // One number: 1 where it differs, else 0.
-fn differs(grid: u64, name: &[u8], i: usize, want: u64, got: u64) -> u64
-    ensures { result ≤ 1 }
+fn differs(rt: &impl Print, grid: u64, name: &[u8], i: usize, want: u64, got: u64) -> io::Result<u64>
+    ensures { IfOk result (λ differ. differ ≤ 1) }
 {
     if got == want {
-        return 0;
+        return Ok(0);
     }
-    tell(grid, name, i, want, got);
-    1
+    tell(rt, grid, name, i, want, got)?;
+    Ok(1)
 }
 
 // A grid that the program's slices do not hold counts as one that differs.
-fn no_room(grid: u64, next: usize) -> Compared
-    ensures { (result.next ≡ next) × (result.differ ≤ 1) }
+fn no_room(rt: &impl Print, grid: u64, next: usize) -> io::Result<Compared>
+    ensures { IfOk result (λ seen. (seen.next ≡ next) × (seen.differ ≤ 1)) }
 {
-    io::write_all(STDOUT_FILENO, b"no room for grid ");
-    io::print_decimal(STDOUT_FILENO, grid);
-    io::write_all(STDOUT_FILENO, b"\n");
-    Compared { next, differ: 1 }
+    println!(rt; "no room for grid {grid}")?;
+    Ok(Compared { next, differ: 1 })
 }
 
 // ---- the mesh
 
-fn compare_vertices(text: &[u8], at: usize, vertices: &[f32], grid: u64) -> Compared
+fn compare_vertices(rt: &impl Print, text: &[u8], at: usize, vertices: &[f32], grid: u64) -> io::Result<Compared>
     requires { at ≤ length text.now }
-    ensures { (at ≤ result.next) × (result.next ≤ length text.now) }
+    ensures { IfOk result (λ seen. (at ≤ seen.next) × (seen.next ≤ length text.now)) }
 {
     let mut next = at;
     let mut differ = 0u64;
@@ -76,16 +68,16 @@ fn compare_vertices(text: &[u8], at: usize, vertices: &[f32], grid: u64) -> Comp
     while i < vertices.len() {
         let want = read_hex(text, next);
         let got = arith::pattern32(vertices[i]) as u64;
-        differ += differs(grid, b": coordinate ", i, want.value, got);
+        differ += differs(rt, grid, b": coordinate ", i, want.value, got)?;
         next = want.next;
         i += 1;
     }
-    Compared { next, differ }
+    Ok(Compared { next, differ })
 }
 
-fn compare_faces(text: &[u8], at: usize, faces: &[u32], grid: u64) -> Compared
+fn compare_faces(rt: &impl Print, text: &[u8], at: usize, faces: &[u32], grid: u64) -> io::Result<Compared>
     requires { at ≤ length text.now }
-    ensures { (at ≤ result.next) × (result.next ≤ length text.now) }
+    ensures { IfOk result (λ seen. (at ≤ seen.next) × (seen.next ≤ length text.now)) }
 {
     let mut next = at;
     let mut differ = 0u64;
@@ -93,15 +85,16 @@ fn compare_faces(text: &[u8], at: usize, faces: &[u32], grid: u64) -> Compared
     while i < faces.len() {
         let want = read_decimal(text, next);
         let got = faces[i] as u64;
-        differ += differs(grid, b": face corner ", i, want.value, got);
+        differ += differs(rt, grid, b": face corner ", i, want.value, got)?;
         next = want.next;
         i += 1;
     }
-    Compared { next, differ }
+    Ok(Compared { next, differ })
 }
 
 // The second pass, and its mesh beside the list's.
 fn compare_mesh(
+    rt: &impl Print,
     text: &[u8],
     at: usize,
     lattice: Lattice,
@@ -111,21 +104,22 @@ fn compare_mesh(
     vertices: &mut [f32],
     faces: &mut [u32],
     grid: u64,
-) -> Compared
+) -> io::Result<Compared>
     requires { (at ≤ length text.now) × Writable values.now table.now lattice iso vertices.old faces.old }
-    ensures { (at ≤ result.next) × (result.next ≤ length text.now) × (result.differ ≤ 1) }
+    ensures { IfOk result (λ seen. (at ≤ seen.next) × (seen.next ≤ length text.now) × (seen.differ ≤ 1)) }
 {
     extract::write_mesh(values, lattice, iso, table, vertices, faces);
-    let points = compare_vertices(text, at, vertices, grid);
-    let corners = compare_faces(text, points.next, faces, grid);
-    Compared {
+    let points = compare_vertices(rt, text, at, vertices, grid)?;
+    let corners = compare_faces(rt, text, points.next, faces, grid)?;
+    Ok(Compared {
         next: corners.next,
         differ: one_if_any(points.differ, corners.differ),
-    }
+    })
 }
 
 // Parts of exactly 3V and 3F elements for the vertices and the faces.
 fn replay_writing(
+    rt: &impl Print,
     text: &[u8],
     at: usize,
     lattice: Lattice,
@@ -134,19 +128,20 @@ fn replay_writing(
     table: &[u32],
     totals: MeshSize,
     grid: u64,
-) -> Compared
+) -> io::Result<Compared>
     requires { (at ≤ length text.now)
         × Numberable values.now table.now lattice
         × Counted values.now table.now lattice iso totals
         × (totals.vertices ≤ 256)
         × (totals.faces ≤ 256) }
-    ensures { (at ≤ result.next) × (result.next ≤ length text.now) × (result.differ ≤ 1) }
+    ensures { IfOk result (λ seen. (at ≤ seen.next) × (seen.next ≤ length text.now) × (seen.differ ≤ 1)) }
 {
     let v = 3 * totals.vertices;
     let f = 3 * totals.faces;
     let mut vertices = [0.5f32; 768];
     let mut faces = [7u32; 768];
     compare_mesh(
+        rt,
         text,
         at,
         lattice,
@@ -160,25 +155,25 @@ fn replay_writing(
 }
 
 // Whether V or F differs from the list's.
-fn miscounted(text: &[u8], at: usize, totals: MeshSize, grid: u64) -> Compared
+fn miscounted(rt: &impl Print, text: &[u8], at: usize, totals: MeshSize, grid: u64) -> io::Result<Compared>
     requires { at ≤ length text.now }
-    ensures { (at ≤ result.next) × (result.next ≤ length text.now) × (result.differ ≤ 1) }
+    ensures { IfOk result (λ seen. (at ≤ seen.next) × (seen.next ≤ length text.now) × (seen.differ ≤ 1)) }
 {
     let vertices = read_decimal(text, skip_word(text, at));
     let faces = read_decimal(text, vertices.next);
     let v = totals.vertices as u64;
     let f = totals.faces as u64;
-    Compared {
+    let in_vertices = differs(rt, grid, b": V ", 0, vertices.value, v)?;
+    let in_faces = differs(rt, grid, b": F ", 0, faces.value, f)?;
+    Ok(Compared {
         next: faces.next,
-        differ: one_if_any(
-            differs(grid, b": V ", 0, vertices.value, v),
-            differs(grid, b": F ", 0, faces.value, f),
-        ),
-    }
+        differ: one_if_any(in_vertices, in_faces),
+    })
 }
 
 // The first pass, over the values that the list gives.
 fn replay_numbering(
+    rt: &impl Print,
     text: &[u8],
     at: usize,
     lattice: Lattice,
@@ -186,23 +181,23 @@ fn replay_numbering(
     values: &mut [f32],
     table: &mut [u32],
     grid: u64,
-) -> Compared
+) -> io::Result<Compared>
     requires { (at ≤ length text.now) × Numberable values.old table.old lattice }
-    ensures { (at ≤ result.next) × (result.next ≤ length text.now) × (result.differ ≤ 1) }
+    ensures { IfOk result (λ seen. (at ≤ seen.next) × (seen.next ≤ length text.now) × (seen.differ ≤ 1)) }
 {
     let mesh = read_values(text, at, values);
     let totals = extract::number_edges(values, lattice, iso, table);
-    let counts = miscounted(text, mesh, totals, grid);
+    let counts = miscounted(rt, text, mesh, totals, grid)?;
     if 0 < counts.differ {
-        return counts;
+        return Ok(counts);
     }
     if 256 < totals.vertices {
-        return no_room(grid, counts.next);
+        return no_room(rt, grid, counts.next);
     }
     if 256 < totals.faces {
-        return no_room(grid, counts.next);
+        return no_room(rt, grid, counts.next);
     }
-    replay_writing(text, counts.next, lattice, iso, values, table, totals, grid)
+    replay_writing(rt, text, counts.next, lattice, iso, values, table, totals, grid)
 }
 
 // ---- the grid
@@ -241,20 +236,22 @@ fn nodes_here(lattice: Lattice) -> usize
 
 // Parts of exactly N and 3N elements for the values and the edge table.
 fn replay_parts(
+    rt: &impl Print,
     text: &[u8],
     at: usize,
     lattice: Lattice,
     iso: f32,
     nodes: usize,
     grid: u64,
-) -> Compared
+) -> io::Result<Compared>
     requires { (at ≤ length text.now) × Counts lattice.counts × (nodes ≡ count_x lattice * count_y lattice * count_z lattice) × (nodes ≤ 128) }
-    ensures { (at ≤ result.next) × (result.next ≤ length text.now) × (result.differ ≤ 1) }
+    ensures { IfOk result (λ seen. (at ≤ seen.next) × (seen.next ≤ length text.now) × (seen.differ ≤ 1)) }
 {
     let edges = 3 * nodes;
     let mut values = [0.5f32; 128];
     let mut table = [7u32; 384];
     replay_numbering(
+        rt,
         text,
         at,
         lattice,
@@ -265,16 +262,16 @@ fn replay_parts(
     )
 }
 
-fn replay_grid(text: &[u8], at: usize, grid: u64) -> Compared
+fn replay_grid(rt: &impl Print, text: &[u8], at: usize, grid: u64) -> io::Result<Compared>
     requires { at ≤ length text.now }
-    ensures { (at ≤ result.next) × (result.next ≤ length text.now) × (result.differ ≤ 1) }
+    ensures { IfOk result (λ seen. (at ≤ seen.next) × (seen.next ≤ length text.now) × (seen.differ ≤ 1)) }
 {
     let header = read_header(text, at);
     let nodes = nodes_here(header.lattice);
     if nodes == 0 {
-        return no_room(grid, header.next);
+        return no_room(rt, grid, header.next);
     }
-    replay_parts(text, header.next, header.lattice, header.iso, nodes, grid)
+    replay_parts(rt, text, header.next, header.lattice, header.iso, nodes, grid)
 }
 
 // ---- the list
@@ -288,53 +285,50 @@ struct Step {
 }
 
 // A grid begins at the word `grid`; other words, which a mesh that differs leaves over, are passed by.
-fn replay_word(text: &[u8], at: usize, grid: u64) -> Step
+fn replay_word(rt: &impl Print, text: &[u8], at: usize, grid: u64) -> io::Result<Step>
     requires { at < length text.now }
-    ensures { (at < result.next) × (result.next ≤ length text.now) × (result.grids ≤ 1) × (result.differ ≤ 1) }
+    ensures { IfOk result (λ step. (at < step.next) × (step.next ≤ length text.now) × (step.grids ≤ 1) × (step.differ ≤ 1)) }
 {
     let word = replay::next_word(text, at);
     let from = word.from;
     let to = word.to;
     if to <= from {
-        return Step {
+        return Ok(Step {
             next: text.len(),
             grids: 0,
             differ: 0,
-        };
+        });
     }
     if !check::same(&text[from..to], b"grid") {
-        return Step {
+        return Ok(Step {
             next: to,
             grids: 0,
             differ: 0,
-        };
+        });
     }
-    let compared = replay_grid(text, to, grid);
-    Step {
+    let compared = replay_grid(rt, text, to, grid)?;
+    Ok(Step {
         next: compared.next,
         grids: 1,
         differ: compared.differ,
-    }
+    })
 }
 
-fn replay_all(text: &[u8]) {
+fn replay_all(rt: &impl Print, text: &[u8]) -> io::Result<()> {
     let mut at = 0usize;
     let mut grids = 0u64;
     let mut differ = 0u64;
     while at < text.len() {
-        let step = replay_word(text, at, grids);
+        let step = replay_word(rt, text, at, grids)?;
         at = step.next;
         grids += step.grids;
         differ += step.differ;
     }
-    io::print_decimal(STDOUT_FILENO, grids);
-    io::write_all(STDOUT_FILENO, b" grids, ");
-    io::print_decimal(STDOUT_FILENO, differ);
-    io::write_all(STDOUT_FILENO, b" differ\n");
+    println!(rt; "{grids} grids, {differ} differ")
 }
 
-fn main() {
+fn main(rt: HostRuntime) -> io::Result<()> {
     let mut text = [0u8; 131072];
-    let n = io::read_full(STDIN_FILENO, &mut text);
-    replay_all(&text[..n]);
+    let n = input::read_full(&rt, &mut text)?;
+    replay_all(&rt, &text[..n])
 }

@@ -4,7 +4,7 @@ ghost use Rattle.std.specs.Prelude.{◌≡◌, ◌*◌, ◌<◌, ◌≤◌, leng
 ghost use Rattle.grid.specs.Grid.{Sides, all_nodes};
 
 use grid::Grid;
-use libc::STDOUT_FILENO;
+use std::io;
 
 // ---- the values of the nodes, by a rule of whole numbers
 
@@ -127,7 +127,7 @@ fn offset(t: usize) -> f64 {
 // ---- samples
 
 // The sample at the place with the coordinates a, b and 3a+b of their axes.
-fn sample(g: Grid, values: &[f32], a: usize, b: usize)
+fn sample(rt: &impl Print, g: Grid, values: &[f32], a: usize, b: usize) -> io::Result<()>
     requires sides { Sides g.nodes }
     requires values_len { length values.now ≡ all_nodes g }
     requires a_bound { (a < 14) × (b < 14) }
@@ -138,34 +138,35 @@ fn sample(g: Grid, values: &[f32], a: usize, b: usize)
         coordinate(b, o[1]),
         coordinate((3 * a + b) % 14, o[2]),
     ];
-    io::write_all(STDOUT_FILENO, b" ");
-    io::print_hex(STDOUT_FILENO, arith::pattern64(g.sample(values, p)), 16);
+    rt.write_all(b" ")?;
+    print!(rt; "{:016x}", arith::pattern64(g.sample(values, p)))
 }
 
 // The samples of one y.
-fn row(g: Grid, values: &[f32], b: usize)
+fn row(rt: &impl Print, g: Grid, values: &[f32], b: usize) -> io::Result<()>
     requires sides { Sides g.nodes }
     requires values_len { length values.now ≡ all_nodes g }
     requires b_bound { b < 14 }
 {
     let mut a = 0usize;
     while a < 14 {
-        sample(g, values, a, b);
+        sample(rt, g, values, a, b)?;
         a += 1;
     }
-    io::write_all(STDOUT_FILENO, b"\n");
+    rt.write_all(b"\n")
 }
 
 // The samples of all.
-fn rows(g: Grid, values: &[f32])
+fn rows(rt: &impl Print, g: Grid, values: &[f32]) -> io::Result<()>
     requires sides { Sides g.nodes }
     requires values_len { length values.now ≡ all_nodes g }
 {
     let mut b = 0usize;
     while b < 14 {
-        row(g, values, b);
+        row(rt, g, values, b)?;
         b += 1;
     }
+    Ok(())
 }
 
 // ---- a grid and its values
@@ -179,25 +180,25 @@ fn cube(depth: u32) -> Grid
 }
 
 // Samples of one grid with one kind of values.
-fn run(name: &[u8], depth: u32, kind: Values)
+fn run(rt: &impl Print, name: &[u8], depth: u32, kind: Values) -> io::Result<()>
     requires { (1 ≤ depth) × (depth ≤ 3) }
 {
-    io::write_all(STDOUT_FILENO, name);
+    rt.write_all(name)?;
     let g = cube(depth);
     let n = g.len();
     let mut values = [0.0f32; 512];
     fill(&mut values, kind);
-    rows(g, &values[..n]);
+    rows(rt, g, &values[..n])
 }
 
-fn main() {
-    run(b"2 nodes, plain\n", 1, Values::Plain);
-    run(b"2 nodes, minus zero\n", 1, Values::MinusZero);
-    run(b"2 nodes, wild\n", 1, Values::Wild);
-    run(b"4 nodes, plain\n", 2, Values::Plain);
-    run(b"4 nodes, minus zero\n", 2, Values::MinusZero);
-    run(b"4 nodes, wild\n", 2, Values::Wild);
-    run(b"8 nodes, plain\n", 3, Values::Plain);
-    run(b"8 nodes, minus zero\n", 3, Values::MinusZero);
-    run(b"8 nodes, wild\n", 3, Values::Wild);
+fn main(rt: HostRuntime) -> io::Result<()> {
+    run(&rt, b"2 nodes, plain\n", 1, Values::Plain)?;
+    run(&rt, b"2 nodes, minus zero\n", 1, Values::MinusZero)?;
+    run(&rt, b"2 nodes, wild\n", 1, Values::Wild)?;
+    run(&rt, b"4 nodes, plain\n", 2, Values::Plain)?;
+    run(&rt, b"4 nodes, minus zero\n", 2, Values::MinusZero)?;
+    run(&rt, b"4 nodes, wild\n", 2, Values::Wild)?;
+    run(&rt, b"8 nodes, plain\n", 3, Values::Plain)?;
+    run(&rt, b"8 nodes, minus zero\n", 3, Values::MinusZero)?;
+    run(&rt, b"8 nodes, wild\n", 3, Values::Wild)
 }

@@ -4,34 +4,35 @@ ghost use Rattle.sheet.specs.Laws.SheetRoom.{Roomy};
 ghost use Rattle.preview.specs.Preview.{hex_digit, in_hex, Previewed};
 
 use answers::Answer;
-use libc::{STDIN_FILENO, STDOUT_FILENO};
+use std::io;
 use points::Point;
 use settings::Settings;
 use sheet::{Header, Sheet};
 
 // A sheet is at most 24 + 24·256 = 6,168 bytes: one more is read, so that a longer one is seen to be.
-fn main() {
+fn main(rt: HostRuntime) -> io::Result<()> {
     let mut input = [0u8; 6169];
-    let n = io::read_full(STDIN_FILENO, &mut input);
-    show(&input[..n]);
+    let n = input::read_full(&rt, &mut input)?;
+    show(&rt, &input[..n])
 }
 
 // `sheet` comes before `preview only`, and that before any refusal.
-fn show(bytes: &[u8]) {
+fn show(rt: &impl Print, bytes: &[u8]) -> io::Result<()> {
     let found = sheet::parse(bytes);
     match found {
-        Sheet::Wrong => say(b"sheet\n"),
-        Sheet::Deep => say(b"preview only\n"),
-        Sheet::Fits(header) => draw(bytes, header),
+        Sheet::Wrong => say(rt, b"sheet\n")?,
+        Sheet::Deep => say(rt, b"preview only\n")?,
+        Sheet::Fits(header) => draw(rt, bytes, header)?,
     }
+    Ok(())
 }
 
-fn say(text: &[u8]) {
-    io::write_all(STDOUT_FILENO, text);
+fn say(rt: &impl Print, text: &[u8]) -> io::Result<()> {
+    rt.write_all(text)
 }
 
 // Up to 256 points of six numbers.
-fn draw(bytes: &[u8], header: Header)
+fn draw(rt: &impl Print, bytes: &[u8], header: Header) -> io::Result<()>
     requires { Roomy bytes.now header }
 {
     let start = header.start;
@@ -39,11 +40,11 @@ fn draw(bytes: &[u8], header: Header)
     let n = Point::NUMBERS * header.count;
     let mut points = [0.0f32; 1536];
     sheet::read_floats(bytes, start, &mut points[..n]);
-    mesh(&points[..n], settings);
+    mesh(rt, &points[..n], settings)
 }
 
 // Room for any mesh of depth 3: 512 nodes, 343 cells of at most 5 faces, 1,344 edges of at most one vertex. `tell` asks for the proof.
-fn mesh(points: &[f32], settings: Settings)
+fn mesh(rt: &impl Print, points: &[f32], settings: Settings) -> io::Result<()>
     requires { Previewed points.now settings }
 {
     let mut vertices = [0.0f32; 4032];
@@ -72,73 +73,75 @@ fn mesh(points: &[f32], settings: Settings)
         &mut edges,
         &mut distances,
     );
-    tell(answer, &vertices, &faces);
+    tell(rt, answer, &vertices, &faces)
 }
 
 // `refused N`, or `mesh V F`, V lines and F lines. No slice is ever too short: 7 to 10 are not told.
-fn tell(answer: Answer, vertices: &[f32], faces: &[u32])
+fn tell(rt: &impl Print, answer: Answer, vertices: &[f32], faces: &[u32]) -> io::Result<()>
     requires { answer.number ≤ 6 }
 {
     if answer.number != 0 {
-        say(b"refused ");
-        io::print_decimal(STDOUT_FILENO, answer.number as u64);
-        say(b"\n");
-        return;
+        say(rt, b"refused ")?;
+        print!(rt; "{}", answer.number)?;
+        say(rt, b"\n")?;
+        return Ok(());
     }
-    say(b"mesh ");
-    io::print_decimal(STDOUT_FILENO, answer.vertices as u64);
-    say(b" ");
-    io::print_decimal(STDOUT_FILENO, answer.faces as u64);
-    say(b"\n");
-    tell_vertices(vertices, answer.vertices);
-    tell_faces(faces, answer.faces);
+    say(rt, b"mesh ")?;
+    print!(rt; "{}", answer.vertices)?;
+    say(rt, b" ")?;
+    print!(rt; "{}", answer.faces)?;
+    say(rt, b"\n")?;
+    tell_vertices(rt, vertices, answer.vertices)?;
+    tell_faces(rt, faces, answer.faces)
 }
 
-fn tell_vertices(vertices: &[f32], count: usize) {
+fn tell_vertices(rt: &impl Print, vertices: &[f32], count: usize) -> io::Result<()> {
     for i in 0..vertices.len() / 3 {
         if count <= i {
-            return;
+            return Ok(());
         }
-        tell_vertex(vertices[3 * i], vertices[3 * i + 1], vertices[3 * i + 2]);
+        tell_vertex(rt, vertices[3 * i], vertices[3 * i + 1], vertices[3 * i + 2])?;
     }
+    Ok(())
 }
 
-fn tell_faces(faces: &[u32], count: usize) {
+fn tell_faces(rt: &impl Print, faces: &[u32], count: usize) -> io::Result<()> {
     for i in 0..faces.len() / 3 {
         if count <= i {
-            return;
+            return Ok(());
         }
-        tell_face(faces[3 * i], faces[3 * i + 1], faces[3 * i + 2]);
+        tell_face(rt, faces[3 * i], faces[3 * i + 1], faces[3 * i + 2])?;
     }
+    Ok(())
 }
 
 // Three eight-digit patterns, single spaces between.
-fn tell_vertex(x: f32, y: f32, z: f32) {
-    tell_hex(x);
-    say(b" ");
-    tell_hex(y);
-    say(b" ");
-    tell_hex(z);
-    say(b"\n");
+fn tell_vertex(rt: &impl Print, x: f32, y: f32, z: f32) -> io::Result<()> {
+    tell_hex(rt, x)?;
+    say(rt, b" ")?;
+    tell_hex(rt, y)?;
+    say(rt, b" ")?;
+    tell_hex(rt, z)?;
+    say(rt, b"\n")
 }
 
 // Three decimal numbers.
-fn tell_face(a: u32, b: u32, c: u32) {
-    tell_number(a);
-    say(b" ");
-    tell_number(b);
-    say(b" ");
-    tell_number(c);
-    say(b"\n");
+fn tell_face(rt: &impl Print, a: u32, b: u32, c: u32) -> io::Result<()> {
+    tell_number(rt, a)?;
+    say(rt, b" ")?;
+    tell_number(rt, b)?;
+    say(rt, b" ")?;
+    tell_number(rt, c)?;
+    say(rt, b"\n")
 }
 
-fn tell_number(n: u32) {
-    io::print_decimal(STDOUT_FILENO, n as u64);
+fn tell_number(rt: &impl Print, n: u32) -> io::Result<()> {
+    print!(rt; "{n}")
 }
 
-fn tell_hex(x: f32) {
+fn tell_hex(rt: &impl Print, x: f32) -> io::Result<()> {
     let text = hex(arith::pattern32(x));
-    io::write_all(STDOUT_FILENO, &text);
+    rt.write_all(&text)
 }
 
 // Eight upper-case digits, most significant first.
