@@ -1,5 +1,7 @@
 // Document 01, "What crosses the counter": "unused result elements and all scratch are zero on return". The one ending of every call, refused or accepted: a
 // refusal has no mesh, so all of its result elements are unused. The Rust has none: its vectors are dropped.
+#![tactic(auto)]
+
 ghost use Rattle.ending.specs.Ending.{Cleared, Tidied};
 
 // Clears all scratch, whole slices, also where they are longer than stated.
