@@ -1,5 +1,7 @@
 // Document 01, "Numbers of refusal" and "What crosses the counter": the verdicts with their numbers, and the answer. Beside the errors of the Rust's
 // poisson.rs, whose strings are numbers here.
+#![tactic(auto)]
+
 ghost use Rattle.std.specs.Prelude.{◌≡◌};
 ghost use Rattle.answers.specs.Answers.{number_of, refused};
 
