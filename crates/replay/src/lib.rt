@@ -1,4 +1,6 @@
 // Lists of worked values, for the programs that replay them: words between blanks, numbers in hexadecimal and in decimal.
+#![tactic(auto)]
+
 ghost use Rattle.std.specs.Prelude.{◌≡◌, true, false, ◌+◌, ◌≤◌, ◌<◌, length, drop};
 ghost use Rattle.replay.specs.Words.{blank, leading, digit_of, hex_of, decimal_of, end_of, word_of};
 
