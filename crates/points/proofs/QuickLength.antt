@@ -47,6 +47,8 @@ unfolding of_bits le
 finite_under nan none t = absurd t
 finite_under (inf false) far t = absurd t
 finite_under (fin false m e) some t = refl
+finite_under (inf true) s t = elim s [ ]
+finite_under (fin true m e) s t = elim s [ ]
 
 above_number : (y x : Float) → lt y x ≡ true → is_nan x ≡ false
 unfolding lt is_nan

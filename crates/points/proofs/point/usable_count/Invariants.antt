@@ -1,0 +1,10 @@
+-- `points::usable_count`: the length of the usable ones so far, one more at each. Assumes nothing.
+use Rattle.std.proofs.Common.{length, ◌-◌, ◌≡◌, ◌≤◌}
+use Rattle.points.specs.Points.{usable_to}
+use Rattle.points.proofs.point.usable_count.Given as goal
+
+abbrev pub invariant-loop-i : goal.invariant-loop-i
+invariant-loop-i l = (l.n ≡ length (usable_to l.points l.i)) × (l.i ≤ l.all)
+
+abbrev pub decreases-loop-i : goal.decreases-loop-i
+decreases-loop-i l = l.all - l.i
