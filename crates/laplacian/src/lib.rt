@@ -1,5 +1,7 @@
 // Document 01, "Solver", its A x, beside `apply` of the Rust's poisson.rs: 6x minus six neighbours, and 0 on the boundary. The Rust tests every node;
 // here whole rows are on the boundary or not, and of a row that is not only the two ends are, so that the loop along it has no test.
+#![tactic(auto)]
+
 ghost use Rattle.std.specs.Prelude.{◌≡◌, ◌+◌, ◌-◌, ◌*◌, ◌≤◌, ◌<◌, length};
 ghost use Rattle.lists.specs.Lists.{tabulate};
 ghost use Rattle.grid.specs.Grid.{Sides, all_nodes};
