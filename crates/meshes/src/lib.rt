@@ -1,6 +1,8 @@
 // A mesh in two flat slices, three f32 a vertex and three vertex numbers a face: its size, a face read and written whole (`faces`), a vertex's place
 // (`vertices`), and the box of the vertices, which is part of the answer (`vertex_box`). What a well-formed mesh is stands in specs/FlatMesh. Beside the
 // Rust's `TriangleMesh`, whose lists hold a place, or three numbers, an entry; it has no box.
+#![tactic(auto)]
+
 mod faces;
 mod vertex_box;
 mod vertices;
