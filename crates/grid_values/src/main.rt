@@ -1,5 +1,7 @@
 // Worked values of `grid`: samples at corners, on edges, outside, at NaN, infinities and zeros, on grids of 2, 4 and 8 nodes per side. A row of the output has
 // the samples of places whose y is the same. The file `stdout` was written by native/src/bin/grid_values.rs, which has the Rust's `trilinear` and `sample`.
+#![tactic(auto)]
+
 ghost use Rattle.std.specs.Prelude.{◌≡◌, ◌*◌, ◌<◌, ◌≤◌, length};
 ghost use Rattle.grid.specs.Grid.{Sides, all_nodes};
 

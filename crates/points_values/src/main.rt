@@ -1,14 +1,16 @@
 // Worked values of `points` and `search`: each case makes its points by the rule of rule.rt, and the functions' answers are printed as counts and bit
 // patterns. The file `stdout` was written by native/src/bin/points_values.rs: the same rule, and document 01's Points, box and Spacing by brute search,
 // in Rust.
+#![tactic(auto)]
+
 mod rule;
 
 ghost use Rattle.std.specs.Prelude.{◌≤◌, length};
 ghost use Rattle.points.specs.Points.{given};
 
-use std::io;
 use points::{Bounds, Point, Usability};
 use rule::{Case, Stand};
+use std::io;
 
 // ---- counts
 
