@@ -1,5 +1,7 @@
 // Document 01, "What crosses the counter" and "Numbers of refusal": what a caller gives beside the points and gets beside the mesh. Beside `PoissonConfig`
 // and the errors of the Rust's poisson.rs, whose strings are numbers here. `checks` says who is refused; the verdicts and their numbers are in the crate `answers`.
+#![tactic(auto)]
+
 mod checks;
 
 ghost use Rattle.std.specs.Prelude.{◌≡◌};
