@@ -1,5 +1,7 @@
 // Document 01, "The preview program": the sheet that it reads, "fields packed most significant first". The Rust has no such program.
 // `bytes` reads numbers and floats off a sheet; the header and the points are read here.
+#![tactic(auto)]
+
 mod bytes;
 
 ghost use Rattle.std.specs.Prelude.{◌≡◌, ◌+◌, ◌*◌, ◌<◌, ◌≤◌, length};
