@@ -1,5 +1,7 @@
 // Document 01, "Field", its blur, beside the second half of `vector_field` and `blur_axis` of the Rust's poisson.rs: a component of the field blurred
 // along axes 0, 1, 2. The Rust blurs into a new Vec each time; here the passes go to and fro between two slices.
+#![tactic(auto)]
+
 mod blur;
 mod kernel;
 
