@@ -1,5 +1,7 @@
 // Document 01, "Solver", its dot product and the updates of a step, beside `dot` of the Rust's poisson.rs and the updates inside its
 // `conjugate_gradient`: whole slices, one element a node. Each is one plain loop, which becomes vector code.
+#![tactic(auto)]
+
 ghost use Rattle.std.specs.Prelude.{◌≡◌, length};
 ghost use Rattle.lists.specs.Lists.{tabulate};
 ghost use Rattle.grid.specs.Grid.{all_nodes};
