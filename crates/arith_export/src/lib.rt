@@ -1,4 +1,6 @@
 // The functions of `arith` for C and Rust to call, so that they can be tested and timed on any processor. Each is that of `arith`, and its contract too.
+#![tactic(auto)]
+
 ghost use Rattle.std.specs.Prelude.{◌≡◌};
 ghost use Rattle.std.specs.Float.{binary32, binary64};
 ghost use Rattle.std.specs.Float.Ieee.{to_unsigned};

@@ -105,10 +105,10 @@ pub extern "C" fn poisson_reconstruct(
     ensures { Told (reconstructed points.now (settings_from depth smoothing offset trimming distance iterations tolerance)) result
         counts.new values.new
         (record {
-          vertices = vertices.entry.now;
+          vertices = vertices.old;
           faces = faces.old;
           scratch = record {
-            s0 = s0.entry.now;
+            s0 = s0.old;
             s1 = s1.old;
             s2 = s2.old;
             s3 = s3.old;
@@ -120,10 +120,10 @@ pub extern "C" fn poisson_reconstruct(
           };
         })
         (record {
-          vertices = vertices.exit.now;
+          vertices = vertices.new;
           faces = faces.new;
           scratch = record {
-            s0 = s0.exit.now;
+            s0 = s0.new;
             s1 = s1.new;
             s2 = s2.new;
             s3 = s3.new;
@@ -167,10 +167,10 @@ pub extern "C" fn poisson_reconstruct_default(
     ensures { Told (reconstructed points.now defaults) result
         counts.new values.new
         (record {
-          vertices = vertices.entry.now;
+          vertices = vertices.old;
           faces = faces.old;
           scratch = record {
-            s0 = s0.entry.now;
+            s0 = s0.old;
             s1 = s1.old;
             s2 = s2.old;
             s3 = s3.old;
@@ -182,10 +182,10 @@ pub extern "C" fn poisson_reconstruct_default(
           };
         })
         (record {
-          vertices = vertices.exit.now;
+          vertices = vertices.new;
           faces = faces.new;
           scratch = record {
-            s0 = s0.exit.now;
+            s0 = s0.new;
             s1 = s1.new;
             s2 = s2.new;
             s3 = s3.new;
@@ -230,11 +230,11 @@ pub extern "C" fn poisson_field(
     values: &mut [f32; 8],
 ) -> u32
     ensures { FieldTold (field_results points.now (settings_from depth smoothing offset trimming distance iterations tolerance)) result
-        counts.new values.exit.now
+        counts.new values.new
         (record {
           values = field.old;
           scratch = record {
-            s0 = s0.entry.now;
+            s0 = s0.old;
             s1 = s1.old;
             s2 = s2.old;
             s3 = s3.old;
@@ -248,7 +248,7 @@ pub extern "C" fn poisson_field(
         (record {
           values = field.new;
           scratch = record {
-            s0 = s0.exit.now;
+            s0 = s0.new;
             s1 = s1.new;
             s2 = s2.new;
             s3 = s3.new;

@@ -18,7 +18,7 @@ pub fn clear_scratch(
 )
     ensures { Cleared
         (record {
-          s0 = s0.entry.now;
+          s0 = s0.old;
           s1 = s1.old;
           s2 = s2.old;
           s3 = s3.old;
@@ -29,7 +29,7 @@ pub fn clear_scratch(
           distances = distances.old;
         })
         (record {
-          s0 = s0.exit.now;
+          s0 = s0.new;
           s1 = s1.new;
           s2 = s2.new;
           s3 = s3.new;
@@ -69,10 +69,10 @@ pub fn tidy(
 )
     ensures { Tidied v w
         (record {
-          vertices = vertices.entry.now;
+          vertices = vertices.old;
           faces = faces.old;
           scratch = record {
-            s0 = s0.entry.now;
+            s0 = s0.old;
             s1 = s1.old;
             s2 = s2.old;
             s3 = s3.old;
@@ -84,10 +84,10 @@ pub fn tidy(
           };
         })
         (record {
-          vertices = vertices.exit.now;
+          vertices = vertices.new;
           faces = faces.new;
           scratch = record {
-            s0 = s0.exit.now;
+            s0 = s0.new;
             s1 = s1.new;
             s2 = s2.new;
             s3 = s3.new;

@@ -104,7 +104,7 @@ fn refuse_or_solve(
     ensures { FieldShown
         (field_results points.now settings
         (field_lengths (record {
-          s0 = s0.entry.now;
+          s0 = s0.old;
           s1 = s1.old;
           s2 = s2.old;
           s3 = s3.old;
@@ -173,7 +173,7 @@ pub fn poisson_field(
         (record {
           values = field.old;
           scratch = record {
-            s0 = s0.entry.now;
+            s0 = s0.old;
             s1 = s1.old;
             s2 = s2.old;
             s3 = s3.old;
@@ -187,7 +187,7 @@ pub fn poisson_field(
         (record {
           values = field.new;
           scratch = record {
-            s0 = s0.exit.now;
+            s0 = s0.new;
             s1 = s1.new;
             s2 = s2.new;
             s3 = s3.new;

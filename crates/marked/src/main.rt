@@ -1,5 +1,7 @@
 // The marked cases of document 01 run through the functions: each line is a case and what the function answers, as a bit pattern or a count.
 // specs/Marked.antt proves the same of the definitions.
+#![tactic(auto)]
+
 ghost use Rattle.std.specs.Prelude.{◌≡◌};
 
 use blur::Kernel;

@@ -119,10 +119,10 @@ fn refuse_or_reconstruct(
     ensures { Shown
         (reconstructed points.now settings
         (lengths_of (record {
-          vertices = vertices.entry.now;
+          vertices = vertices.old;
           faces = faces.old;
           scratch = record {
-            s0 = s0.entry.now;
+            s0 = s0.old;
             s1 = s1.old;
             s2 = s2.old;
             s3 = s3.old;
@@ -133,7 +133,7 @@ fn refuse_or_reconstruct(
             distances = distances.old;
           };
         })))
-        result vertices.exit.now faces.new }
+        result vertices.new faces.new }
 {
     let grids = [
         s0.len(),
@@ -193,10 +193,10 @@ pub fn poisson_reconstruction(
 ) -> Answer
     ensures { Done (reconstructed points.now settings) result
         (record {
-          vertices = vertices.entry.now;
+          vertices = vertices.old;
           faces = faces.old;
           scratch = record {
-            s0 = s0.entry.now;
+            s0 = s0.old;
             s1 = s1.old;
             s2 = s2.old;
             s3 = s3.old;
@@ -208,10 +208,10 @@ pub fn poisson_reconstruction(
           };
         })
         (record {
-          vertices = vertices.exit.now;
+          vertices = vertices.new;
           faces = faces.new;
           scratch = record {
-            s0 = s0.exit.now;
+            s0 = s0.new;
             s1 = s1.new;
             s2 = s2.new;
             s3 = s3.new;
@@ -251,10 +251,10 @@ pub fn poisson_reconstruction_default(
 ) -> Answer
     ensures { Done (reconstructed points.now defaults) result
         (record {
-          vertices = vertices.entry.now;
+          vertices = vertices.old;
           faces = faces.old;
           scratch = record {
-            s0 = s0.entry.now;
+            s0 = s0.old;
             s1 = s1.old;
             s2 = s2.old;
             s3 = s3.old;
@@ -266,10 +266,10 @@ pub fn poisson_reconstruction_default(
           };
         })
         (record {
-          vertices = vertices.exit.now;
+          vertices = vertices.new;
           faces = faces.new;
           scratch = record {
-            s0 = s0.exit.now;
+            s0 = s0.new;
             s1 = s1.new;
             s2 = s2.new;
             s3 = s3.new;

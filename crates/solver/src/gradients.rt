@@ -48,7 +48,7 @@ fn one_turn(
     limit: f64,
 ) -> Turn
     requires { NodeSlices g x.old r.old p.old ap.old }
-    ensures { Turned g limit (record { x = x.entry.now; r = r.old; p = p.old; rr = rr }) result x.exit.now r.new
+    ensures { Turned g limit (record { x = x.old; r = r.old; p = p.old; rr = rr }) result x.new r.new
         p.new }
 {
     if arith::root64(rr) <= limit {
@@ -79,7 +79,7 @@ fn turns(
     cap: usize,
 )
     requires { NodeSlices g x.old r.old p.old ap.old }
-    ensures { x.exit.now ≡ (steps g limit cap (record { x = x.entry.now; r = r.old; p = p.old; rr = start })).x }
+    ensures { x.new ≡ (steps g limit cap (record { x = x.old; r = r.old; p = p.old; rr = start })).x }
 {
     let mut rr = start;
     let mut i = 0usize;
@@ -101,7 +101,7 @@ fn turns(
 fn begin(g: Grid, b: &[f32], x: &[f32], r: &mut [f32], p: &mut [f32], ap: &mut [f32]) -> f64
     requires node_slices { NodeSlices g x.now r.old p.old ap.old }
     requires b_len { length b.now ≡ all_nodes g }
-    ensures { record { x = x.entry.now; r = r.new; p = p.new; rr = result } ≡ started g b.now x.entry.now }
+    ensures { record { x = x.old; r = r.new; p = p.new; rr = result } ≡ started g b.now x.old }
 {
     apply(g, x, ap);
     less(r, b, ap);
