@@ -313,6 +313,16 @@ class Fn:
             self.own[key] = norm(old)
             if old:
                 self.steps.setdefault(norm(old), (new, callee))
+        self.renamed = {tuple(re.findall(r"[\w-]+", o)): tuple(re.findall(r"[\w-]+", n)) for o, n in listed.get("args") or []}
+        self.clauses, self.arms, self.arm_at = {}, {}, {}
+        for row, clause, arm in zip(listed["places"], listed["clauses"], listed["arms"]):
+            if clause:
+                self.clauses[norm(row[2][0])] = clause["fields"]
+            if arm:
+                self.arm_at[norm(row[0])] = arm[0]
+                for field, step, fields in arm[2]:
+                    if not field.endswith("-own"):
+                        self.arms[(norm(step), tuple(fields))] = [arm[0], field]
         self.loops = {norm(old): (new, names, changed) for ((old, new), names), changed in zip(listed["loops"], listed["changed"])}
         self.needs, self.at = {}, {}
         for (old, new), (place, _) in zip(listed["needs"], listed["asked_at"]):
@@ -353,16 +363,35 @@ class Fn:
             return "TODO-place-" + str(place)
         head, rest = fields[0], fields[1:]
         if head == "args":
+            for o, n in self.renamed.items():
+                if o[0] == "args" and len(o) == 2 and rest and rest[0] == o[1]:
+                    rest = [n[1]] + rest[1:]
             return ".".join(["c", "args"] + rest)
+        if norm(head) == "well-formed":
+            return ".".join(["c", "well_formed"] + rest)
+        if rest and re.fullmatch(r"keys\d+", rest[0]):
+            at = f"At-{norm(head)}-{rest[0]}"
+            first = self.arm_at.get(f"At-{norm(head)}-keys1", "")
+            if at in self.arm_at and self.arm_at[at].startswith("in_default") and first.startswith("in-"):
+                if rest[0] != "keys2":
+                    self.tell(f"{head}.{rest[0]}: see which `not-..` it is")
+                return ".".join(["c", self.arm_at[at], "not-" + first.split("-")[1]] + rest[1:])
         if head in ("requires", "pre"):
             return ".".join(["c", "requires"] + clause_path(self.own_requires, rest))
         if head in ("ranges", "lifetimes", "type_inv", "utf8"):
             return ".".join(["c", head] + rest)
         key = norm(head)
+        if key not in self.steps and key.endswith("-lem"):
+            key = key[:-4]
+        for n in range(len(rest), 0, -1):
+            if (key, tuple(rest[:n])) in self.arms:
+                return ".".join(["c"] + self.arms[(key, tuple(rest[:n]))] + rest[n:])
         if key not in self.steps:
             self.tell(f"no step {head}")
             return ".".join(["c", "TODO-" + head] + rest)
-        if place is not None and place in self.own and self.own[place] != key:
+        base = re.sub(r"\d+$", "", key)
+        several = sum(1 for k in self.steps if re.sub(r"\d+$", "", k) == base) > 1
+        if place is not None and place in self.own and self.own[place] != key and several:
             self.tell(f"note: the walk to {head} ends at {place} today: read it")
         new, callee = self.steps[key]
         return ".".join(["c", new] + self.step_fields(key, callee, rest))
@@ -383,6 +412,9 @@ class Fn:
         if first in ("taken", "left"):
             return [{"taken": "true", "left": "false"}[first]] + rest
         if callee:
+            if first == "ensures" and key in self.clauses:
+                fields = self.clauses[key]
+                return [first] + (clause_path(fields, rest) if len(fields) > 1 else fields + rest)
             if first == "ensures":
                 return [first] + clause_path(self.labels_for(callee)["ensures"], rest)
             if first in ("auto", "new") and rest and rest[0] in ("0", "1"):
@@ -416,7 +448,7 @@ class Fn:
             if not rest:
                 return inner
             if len(rest) == 1 and rest[0].startswith("."):
-                return (inner[0], inner[1] + rest[0][1:].split("."))
+                return self.walk(inner[0], inner[1] + rest[0][1:].split("."))
             return None
         parts = toks[0].split(".")
         if len(toks) == 1:
@@ -590,6 +622,27 @@ class Fn:
         rest = helper["params"][n:]
         given = args[n:]
         key = (name, tuple(p[0] for p in places))
+        if rest and not helper["abbrev"] and not helper["implicit"]:
+            if key not in ctx["lets"]:
+                used = [k for k in ctx["lets"] if k[0] == name]
+                label = name.replace("-", "_") + (str(len(used) + 1) if used else "")
+                ctx["lets"][key] = label
+                sig = dict(inner)
+                sig.update({p: ("place", at[0], []) for p, at in zip(helper["place_names"], places) if p})
+                for p in helper["params"][n:]:
+                    sig[p] = None
+                typed = ""
+                for names, typ, _ in helper["binders"]:
+                    for it in names:
+                        sig[it] = None
+                    text = self.expr(typ, sig, ctx)
+                    typed += f"({' '.join(names)} : {text}) → " if names else f"{text} → "
+                typed += self.expr(helper["result"], sig, ctx)
+                env2 = dict(inner)
+                env2.update({p: None for p in rest})
+                body = self.expr(strip(tokens(helper["body"])), env2, ctx)
+                ctx["heads"].append(f"let {label} : {typed} = λ {' '.join(rest)}. {body} in")
+            return " ".join([ctx["lets"][key]] + [self.expr(a, env, ctx) for a in given])
         if not rest and not helper["abbrev"]:
             if key not in ctx["lets"]:
                 used = [k for k in ctx["lets"] if k[0] == name]
@@ -659,6 +712,9 @@ class Fn:
                     "params": params,
                     "arity": len(params),
                     "types": types,
+                    "binders": found[n:],
+                    "result": result,
+                    "place_names": [nm for b in found[:n] for nm in (b[0] or [None])],
                     "type": typ,
                     "body": d.body,
                     "abbrev": "abbrev" in d.flags,
@@ -675,7 +731,7 @@ class Fn:
                 left.append(f"{old} (gone)")
                 continue
             new, place = got
-            if wanted is not None and new not in wanted:
+            if wanted is not None and not any(w == new or w.startswith(new + "-clause-") for w in wanted):
                 continue
             body = d.body.strip()
             if not keep_all and wanted is None and re.fullmatch(r"search rules|omega arith|search \(rules\)", body):
@@ -688,7 +744,23 @@ class Fn:
             env = {d.params[0]: ("place", place, [])}
             ctx = {"lets": {}, "heads": [], "unfolding": d.unfolding.split()[1:]}
             before = len(self.told)
-            text = self.expr(strip(tokens(d.body)), env, ctx)
+            labels = (self.listed.get("asked") or {}).get(new)
+            body = strip(tokens(d.body))
+            clauses = None
+            if labels:
+                body, clauses = self.by_clause(body, labels, env)
+                if clauses is None:
+                    self.tell(f"its clauses are {labels} today")
+            if clauses and wanted is not None and new not in wanted:
+                for label in labels:
+                    part = f"{new}-clause-{label}"
+                    if part in wanted:
+                        texts.append(self.answer(d, part, body + [" "] + clauses[label], env))
+                continue
+            if clauses:
+                rows = [t for label in labels for t in [label, " ", "="] + [" "] + clauses[label] + ["; "]]
+                body = body + [" ", "record", " ", "{", " "] + rows + ["}"]
+            text = self.expr(body, env, ctx)
             self.told[before:] = [f"{new}: {it}" for it in self.told[before:]]
             unfold = f"unfolding {' '.join(ctx['unfolding'])}\n" if ctx["unfolding"] else ""
             heads = "".join(f"    {h}\n" for h in ctx["heads"])
@@ -696,6 +768,77 @@ class Fn:
             long = "\n" in text or heads
             texts.append((new, f"{comment}pub {new} : goal.{new}\n{unfold}{new} c =" + (f"\n{heads}    {text}" if long else f" {text}") + "\n"))
         return invariants, texts, plain, left
+
+    def answer(self, d, name, body, env):
+        ctx = {"lets": {}, "heads": [], "unfolding": d.unfolding.split()[1:]}
+        before = len(self.told)
+        text = self.expr(strip(body), env, ctx)
+        self.told[before:] = [f"{name}: {it}" for it in self.told[before:]]
+        unfold = f"unfolding {' '.join(ctx['unfolding'])}\n" if ctx["unfolding"] else ""
+        heads = "".join(f"    {h}\n" for h in ctx["heads"])
+        return (name, f"pub {name} : goal.{name}\n{unfold}{name} c =\n{heads}    {text}\n")
+
+    def by_clause(self, toks, labels, env):
+        """What stands before a tuple of clauses, and its parts by their labels."""
+        i = 0
+        while True:
+            while i < len(toks) and is_space(toks[i]):
+                i += 1
+            if i < len(toks) and toks[i] == "let":
+                depth, nest, j = 0, 0, i
+                while j < len(toks):
+                    if toks[j] in ("(", "{", "["):
+                        nest += 1
+                    elif toks[j] in (")", "}", "]"):
+                        nest -= 1
+                    elif toks[j] == "let" and nest == 0:
+                        depth += 1
+                    elif toks[j] == "in" and nest == 0:
+                        depth -= 1
+                        if depth == 0:
+                            break
+                    j += 1
+                i = j + 1
+                continue
+            break
+        head, last = toks[:i], strip(toks[i:])
+        parts = []
+        while len(parts) < len(labels) - 1:
+            if not last or last[0] != "(" or close_of(last, 0) != len(last) - 1:
+                break
+            inner, rows, nest = last[1:-1], [[]], 0
+            for t in inner:
+                if t in ("(", "{", "["):
+                    nest += 1
+                elif t in (")", "}", "]"):
+                    nest -= 1
+                if t == "," and nest == 0:
+                    rows.append([])
+                else:
+                    rows[-1].append(t)
+            rows = [strip(r) for r in rows if strip(r)]
+            if len(rows) < 2:
+                break
+            take = len(labels) - 1 - len(parts)
+            if len(rows) - 1 >= take:
+                parts += rows[:take]
+                tail = rows[take:]
+                last = tail[0] if len(tail) == 1 else ["("] + [t for k, r in enumerate(tail) for t in ([", "] if k else []) + r] + [")"]
+            else:
+                parts += rows[:-1]
+                last = rows[-1]
+        if len(parts) == len(labels) - 1:
+            return head, dict(zip(labels, parts + [last]))
+        if len(last) == 1 and not parts:
+            own = None
+            got = self.as_place(self.placed_at(head, last), env) if not head else None
+            if got and len(got[1]) == 1 and got[1][0] in ("requires", "pre") and len(self.own_requires) == len(labels):
+                return head, {label: [f"c.requires.{mine}"] for label, mine in zip(labels, self.own_requires)}
+        return toks, None
+
+    @staticmethod
+    def placed_at(head, last):
+        return last
 
     def invariant(self, d, kind, loop):
         if loop not in self.loops:
@@ -707,11 +850,17 @@ class Fn:
         order = [(n, c) for n, c in zip(names, changed)]
         to = [f"l.initial.{n}" if c else f"l.{n}" for n, c in order] + [f"l.{n}" for n, c in order if c]
         if len(to) != len(d.params):
+            to = []
+            for k, p in enumerate(d.params):
+                plain = p.replace("₀", "")
+                begun = p.endswith("₀") or plain in [q.replace("₀", "") for q in d.params[:k]]
+                to.append(f"l.initial.{plain}" if p.endswith("₀") and plain in names else f"l.{plain}" if plain in names else f"TODO-{plain}")
+        if any("TODO" in t and re.search(rf"(?<![\w.-]){re.escape(p)}(?![\w-])", d.body) for p, t in zip(d.params, to)):
             self.tell(f"{kind} of {loop}: {len(d.params)} parameters, and {len(to)} today: {to}")
         env = {p: ("text", t) for p, t in zip(d.params, to)}
         ctx = {"lets": {}, "heads": [], "unfolding": []}
         text = self.expr(strip(tokens(d.body)), env, ctx)
-        mark = "" if len(to) == len(d.params) else f"TODO-parameters {' '.join(d.params)} to {' '.join(to)}\n"
+        mark = ""
         name = f"{kind}-{new}"
         return f"{mark}abbrev pub {name} : goal.{name}\n{name} l = {text}\n"
 
@@ -729,7 +878,7 @@ class Fn:
                     it = it.strip()
                     called = it.split(" as ")[-1].strip()
                     parts = [p for p in called.split("◌") if p]
-                    if all(p in toks for p in parts):
+                    if all(p in toks or (p == "[]" and "[]" in text) for p in parts):
                         groups.setdefault(moved(m[1], it), []).append(it)
                 continue
             m = re.match(r"use (\S+) as (\S+)$", use)
