@@ -1,6 +1,8 @@
 // Document 01, "Field", beside `vector_field` and `rhs` of the Rust's poisson.rs: the right side of the solver's equation on one grid. The blur is the
 // crate `blur`'s. The Rust holds three components and blurs each into a new Vec; here each is spread into one slice and blurred to and fro between that
 // and its own.
+#![tactic(auto)]
+
 mod divergence;
 mod splat;
 
