@@ -11,8 +11,8 @@ use Rattle.cells.proofs as fn
 pub below : OneOutcome contract.cell.below.ended fn.cell.below.Reads.Post
 below κs args o o' p q = same p q & refl
 
-pub side_of_lem : OneOutcome contract.cell.side_of.ended fn.cell.side_of.Reads.Post
-side_of_lem κs args o o' p q = same p q & refl
+pub side_of : OneOutcome contract.cell.side_of.ended fn.cell.side_of.Reads.Post
+side_of κs args o o' p q = same p q & refl
 
 pub is_plain : OneOutcome contract.cell.is_plain.ended fn.cell.is_plain.Reads.Post
 is_plain κs args o o' p q = same p q & refl

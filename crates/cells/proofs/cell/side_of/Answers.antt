@@ -1,4 +1,4 @@
--- All four nodes are inside (`inside`), the four bits are those of the definition, and their sum is at most 15.
+-- The four bits are those of the definition, each read at its node.
 use Rattle.std.proofs.Common.{◌≡◌, ap, ◌∙◌, ℕ, ◌+◌, ◌*◌, arith}
 use Rattle.lists.specs.Lists.{at}
 use Rattle.closed.specs.Lists.{bit}

@@ -1,5 +1,4 @@
--- The lower node is the edge's and the upper one a stride further, both inside (`upper`); the counts are small (`small`); so what is made of them is the
--- vertex.
+-- The lower node is the edge's and the upper one a stride further, so what is made of the numbers on the way is the vertex (`point_is`).
 use Rattle.cells.proofs.Points.{point_is}
 use Rattle.cells.proofs.vertex.point.Goals as goal
 
