@@ -1,5 +1,7 @@
 // Both passes of `extract` over a cube, for C and Rust to call, so that they can be tested and timed on any processor. Each is that of its crate, and its
 // contract too. The caller keeps what a `requires` asks: lengths that fit, and the table of the first pass. Nothing checks it at the boundary.
+#![tactic(auto)]
+
 ghost use Rattle.std.specs.Prelude.{[], ◌∷◌, get_or};
 ghost use Rattle.grid.specs.Grid.{Sides, lattice_of};
 ghost use Rattle.numbering.specs.Words.{Numberable, Counted};

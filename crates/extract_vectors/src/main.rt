@@ -2,6 +2,8 @@
 // level and values, then its mesh: V and F, three patterns a vertex, three numbers a face. The list was written by a Rust program that runs the Rust's own
 // `extract_shared`, with each NaN rewritten as 01 stores it; NaN, infinities and values equal to the level are among the values, and some grids have unequal
 // sides. The last two grids were added by 01's rule: P12, and 3×3×3 with only the centre below. The slices hold rubbish before each call.
+#![tactic(auto)]
+
 mod words;
 
 ghost use Rattle.std.specs.Prelude.{◌≡◌, ◌*◌, ◌<◌, ◌≤◌, length, IfOk};
@@ -11,9 +13,9 @@ ghost use Rattle.numbering.specs.Words.{Numberable, Counted};
 ghost use Rattle.extract.specs.Words.{Writable};
 
 use grid::Lattice;
-use std::io;
 use meshes::MeshSize;
 use replay::{read_decimal, read_hex};
+use std::io;
 use words::{read_header, read_values, skip_word};
 
 // ---- what differs
@@ -38,7 +40,14 @@ fn tell(rt: &impl Print, grid: u64, name: &[u8], i: usize, want: u64, got: u64) 
 }
 
 // One number: 1 where it differs, else 0.
-fn differs(rt: &impl Print, grid: u64, name: &[u8], i: usize, want: u64, got: u64) -> io::Result<u64>
+fn differs(
+    rt: &impl Print,
+    grid: u64,
+    name: &[u8],
+    i: usize,
+    want: u64,
+    got: u64,
+) -> io::Result<u64>
     ensures { IfOk result (λ differ. differ ≤ 1) }
 {
     if got == want {
@@ -58,7 +67,13 @@ fn no_room(rt: &impl Print, grid: u64, next: usize) -> io::Result<Compared>
 
 // ---- the mesh
 
-fn compare_vertices(rt: &impl Print, text: &[u8], at: usize, vertices: &[f32], grid: u64) -> io::Result<Compared>
+fn compare_vertices(
+    rt: &impl Print,
+    text: &[u8],
+    at: usize,
+    vertices: &[f32],
+    grid: u64,
+) -> io::Result<Compared>
     requires { at ≤ length text.now }
     ensures { IfOk result (λ seen. (at ≤ seen.next) × (seen.next ≤ length text.now)) }
 {
@@ -75,7 +90,13 @@ fn compare_vertices(rt: &impl Print, text: &[u8], at: usize, vertices: &[f32], g
     Ok(Compared { next, differ })
 }
 
-fn compare_faces(rt: &impl Print, text: &[u8], at: usize, faces: &[u32], grid: u64) -> io::Result<Compared>
+fn compare_faces(
+    rt: &impl Print,
+    text: &[u8],
+    at: usize,
+    faces: &[u32],
+    grid: u64,
+) -> io::Result<Compared>
     requires { at ≤ length text.now }
     ensures { IfOk result (λ seen. (at ≤ seen.next) × (seen.next ≤ length text.now)) }
 {
@@ -155,7 +176,13 @@ fn replay_writing(
 }
 
 // Whether V or F differs from the list's.
-fn miscounted(rt: &impl Print, text: &[u8], at: usize, totals: MeshSize, grid: u64) -> io::Result<Compared>
+fn miscounted(
+    rt: &impl Print,
+    text: &[u8],
+    at: usize,
+    totals: MeshSize,
+    grid: u64,
+) -> io::Result<Compared>
     requires { at ≤ length text.now }
     ensures { IfOk result (λ seen. (at ≤ seen.next) × (seen.next ≤ length text.now) × (seen.differ ≤ 1)) }
 {
@@ -197,7 +224,17 @@ fn replay_numbering(
     if 256 < totals.faces {
         return no_room(rt, grid, counts.next);
     }
-    replay_writing(rt, text, counts.next, lattice, iso, values, table, totals, grid)
+    replay_writing(
+        rt,
+        text,
+        counts.next,
+        lattice,
+        iso,
+        values,
+        table,
+        totals,
+        grid,
+    )
 }
 
 // ---- the grid
@@ -271,7 +308,15 @@ fn replay_grid(rt: &impl Print, text: &[u8], at: usize, grid: u64) -> io::Result
     if nodes == 0 {
         return no_room(rt, grid, header.next);
     }
-    replay_parts(rt, text, header.next, header.lattice, header.iso, nodes, grid)
+    replay_parts(
+        rt,
+        text,
+        header.next,
+        header.lattice,
+        header.iso,
+        nodes,
+        grid,
+    )
 }
 
 // ---- the list
