@@ -2,8 +2,12 @@
 """Turns old whole proofs, proofs/F/Proof.antt, of a crate into Invariants.antt and Answers.antt.
 
 usage: python3 tools/convert.py [--old FOLDER] [--names FILE] [--open LOG] [--all] [--only WORD] crates/NAME
+       python3 tools/convert.py --until [--old FOLDER] crates/NAME        all steps for a crate whose crates below prove: the usual way
 
-It moves each Proof.antt of the crate to FOLDER/NAME/proofs/F/ (by default /tmp/old-proofs; what is there already is used again), lets `rt` list the names of goals
+--until writes #![tactic(auto)] where it is missing and the invariants, and then checks and adds the answers that the check asks for, until it asks for
+no more; it prints what stays open, and leaves the last check's words in FOLDER/NAME.log.
+
+It moves each Proof.antt of the crate to FOLDER/NAME/proofs/F/ (by default old-proofs in the folder for temporary files; what is there already is used again), lets `rt` list the names of goals
 (the crates below have to be proved; FILE is such a names.json from before), and writes proofs/F/Invariants.antt (invariants and the measures that are
 still asked for) and proofs/F/Answers.antt.
 Answers that only call the search or `omega arith`, and those of goals that are gone, are left out; --all keeps the first. With --open LOG it writes only
@@ -14,8 +18,8 @@ What it cannot map stands as `TODO-..` in the file, which the check refuses, and
 
 How names map: a walk `c.before.before.STEP.x` becomes `c.NEWSTEP.x`; a `let` of a place or of a path is written out; helpers that take a place are
 written out or become a `let`; `.auto.1.1.0` and `.new.1.0` of a call become the parameter's name; `.requires.0` and `.ensures.1` become the clause's
-label where there are several; a parameter of an invariant becomes `l.x`, one with ₀ `l.initial.x`.
-Joins (`.branch`), `given` and `keys` of enums are left as TODO.
+label where there are several, and a tuple of a goal's clauses a record of them; a parameter of an invariant becomes `l.x`, one with ₀ `l.initial.x`;
+`given` and `keys` of a match become `c.in-V.is`, its pattern's names and `c.in_default.not-V`. Joins (`.branch`) are left as TODO.
 """
 
 import json
@@ -24,11 +28,12 @@ import re
 import shutil
 import subprocess
 import sys
+import tempfile
 
 TOKEN = re.compile(r"--[^\n]*|\s+|[(){}\[\],;]|λ|(?:[^\s(){}\[\],;λ.]|\.(?=[^\s(){}\[\],;λ.]))+|\.")
 PLACES = re.compile(r"^tie\.(Start|Untold|In-|At-|After-|Then|Else|Arm|Case|Match)")
 COMMON = {}
-SAID = []
+OLD = os.path.join(tempfile.gettempdir(), "old-proofs")
 
 
 def say(*words):
@@ -73,7 +78,8 @@ def strip(toks):
 
 
 def common_names():
-    path = "/opt/rattle/rattle/std/proofs/Common.antt"
+    kit = os.path.dirname(os.path.dirname(os.path.realpath(shutil.which("rt"))))
+    path = os.path.join(kit, "rattle/std/proofs/Common.antt")
     names = {}
     for line in open(path, encoding="utf-8"):
         m = re.match(r"pub use (\S+?)\.\{(.*)\}", line)
@@ -260,7 +266,6 @@ def binders(sig):
         if not toks:
             break
         if toks[0] in "({":
-            group = [toks[0]]
             taken = []
             i = 0
             ok = False
@@ -516,8 +521,6 @@ class Fn:
                 while j < len(toks) and toks[j] != ".":
                     j += 1
                 bound = toks[i + 1 : j]
-                depth_colon = False
-                text = []
                 typed = False
                 for b in bound:
                     if b == "(":
@@ -701,9 +704,6 @@ class Fn:
                         for _ in range(max(len(names), 1)):
                             types.append(typ)
                 params = d.params
-                for it in ("type",):
-                    pass
-                pretty = [t for t in result]
                 named = [nm for names, _, imp in found if not imp for nm in (names or [None])]
                 ren = dict(zip(named, params))
                 typ = [ren.get(t, t) if t in ren else t for t in result]
@@ -830,15 +830,10 @@ class Fn:
         if len(parts) == len(labels) - 1:
             return head, dict(zip(labels, parts + [last]))
         if len(last) == 1 and not parts:
-            own = None
-            got = self.as_place(self.placed_at(head, last), env) if not head else None
+            got = self.as_place(last, env) if not head else None
             if got and len(got[1]) == 1 and got[1][0] in ("requires", "pre") and len(self.own_requires) == len(labels):
                 return head, {label: [f"c.requires.{mine}"] for label, mine in zip(labels, self.own_requires)}
         return toks, None
-
-    @staticmethod
-    def placed_at(head, last):
-        return last
 
     def invariant(self, d, kind, loop):
         if loop not in self.loops:
@@ -851,9 +846,8 @@ class Fn:
         to = [f"l.initial.{n}" if c else f"l.{n}" for n, c in order] + [f"l.{n}" for n, c in order if c]
         if len(to) != len(d.params):
             to = []
-            for k, p in enumerate(d.params):
+            for p in d.params:
                 plain = p.replace("₀", "")
-                begun = p.endswith("₀") or plain in [q.replace("₀", "") for q in d.params[:k]]
                 to.append(f"l.initial.{plain}" if p.endswith("₀") and plain in names else f"l.{plain}" if plain in names else f"TODO-{plain}")
         if any("TODO" in t and re.search(rf"(?<![\w.-]){re.escape(p)}(?![\w-])", d.body) for p, t in zip(d.params, to)):
             self.tell(f"{kind} of {loop}: {len(d.params)} parameters, and {len(to)} today: {to}")
@@ -894,9 +888,41 @@ class Fn:
         return "\n".join(made + lines + [f"use Rattle.{self.crate}.proofs.{own}.{module} as goal"]) + "\n"
 
 
+def until():
+    rest = [a for a in sys.argv[1:] if a != "--until"]
+    folder = os.path.abspath(rest[-1])
+    old = rest[rest.index("--old") + 1] if "--old" in rest else OLD
+    os.makedirs(old, exist_ok=True)
+    log = os.path.join(old, os.path.basename(folder) + ".log")
+    for name in ("src/lib.rt", "src/main.rt"):
+        path = os.path.join(folder, name)
+        if os.path.exists(path):
+            text = open(path, encoding="utf-8").read()
+            if "#![tactic(" not in text:
+                text = re.sub(r"(?m)^(?=ghost use|use |mod |pub mod |pub |fn |struct |const |#\[)", "#![tactic(auto)]\n\n", text, count=1)
+                open(path, "w", encoding="utf-8").write(text)
+
+    def check():
+        subprocess.run(["rt", "fmt"], cwd=folder, capture_output=True)
+        got = subprocess.run(["rt", "check"], cwd=folder, capture_output=True, text=True)
+        text = got.stdout + got.stderr
+        open(log, "w", encoding="utf-8").write(text)
+        return [l for l in text.split("\n") if re.search(r"error|^fn .*(no proof|not proved)|^logic=", l)]
+
+    def turn(of):
+        subprocess.run([sys.executable, os.path.abspath(__file__), "--open", of] + rest)
+
+    turn("/dev/null")
+    before, said = None, check()
+    while said != before:
+        turn(log)
+        before, said = said, check()
+    print("\n".join(l[:400] for l in said))
+
+
 def main():
     args = sys.argv[1:]
-    options = {"--old": "/tmp/old-proofs", "--names": None, "--open": None, "--only": ""}
+    options = {"--old": OLD, "--names": None, "--open": None, "--only": ""}
     keep_all = "--all" in args
     args = [a for a in args if a != "--all"]
     rest = []
@@ -978,7 +1004,6 @@ def main():
             before = open(at, encoding="utf-8").read()
             texts = [t for t in texts if not re.search(rf"(?m)^(pub )?{re.escape(t[0])} :", before)]
             if texts:
-                body = re.sub(r"(?m)^(--.*|use .*|)\n", lambda m: m[0] if False else m[0], before)
                 parts = before.split("\n\n", 1)
                 before = parts[1] if len(parts) > 1 else ""
         if texts:
@@ -1004,4 +1029,7 @@ def main():
             say(f"{where}: TO READ: " + "; ".join(fn.told))
 
 
-main()
+if "--until" in sys.argv:
+    until()
+else:
+    main()
