@@ -1,5 +1,7 @@
 // Document 01, "Box, level, orientation, trim": the orientation. The faces look where the field grows, as the points' normals do. Beside `orient` and
 // `face_normal` of the Rust's poisson.rs. A face's centre, which the trim uses too, and its normal are in `triangle`.
+#![tactic(auto)]
+
 mod triangle;
 
 ghost use Rattle.std.specs.Prelude.{◌≡◌, map, ◌*◌, ◌<◌, length};
