@@ -101,7 +101,7 @@ fn turns(
 fn begin(g: Grid, b: &[f32], x: &[f32], r: &mut [f32], p: &mut [f32], ap: &mut [f32]) -> f64
     requires node_slices { NodeSlices g x.now r.old p.old ap.old }
     requires b_len { length b.now ≡ all_nodes g }
-    ensures { record { x = x.old; r = r.new; p = p.new; rr = result } ≡ started g b.now x.old }
+    ensures { record { x = x.now; r = r.new; p = p.new; rr = result } ≡ started g b.now x.now }
 {
     apply(g, x, ap);
     less(r, b, ap);
