@@ -1,6 +1,8 @@
 // Document 01, "Solver", its levels, beside `solve` of the Rust's poisson.rs. The Rust calls itself for the level before; here the levels rise in a loop,
 // since each right side depends only on its own level. Where the Rust makes each grid as a `Vec`, seven slices are lent here, of which each level takes
 // the front.
+#![tactic(auto)]
+
 ghost use Rattle.std.specs.Prelude.{◌≡◌, ◌≤◌, length};
 ghost use Rattle.grid.specs.Grid.{Sides};
 ghost use Rattle.points.specs.Points.{usables};
