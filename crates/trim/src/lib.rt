@@ -1,6 +1,8 @@
 // Document 01, "Box, level, orientation, trim": the trim, after the turning. Beside `trim` of the Rust's poisson.rs, which makes new vectors; here the
 // faces are moved forward where they stand (`keeping`), a lent table over the old vertices numbers them at first use (`renumbering`), and the coordinates
 // move one axis at a time through three lent slices taken as one (`moving`).
+#![tactic(auto)]
+
 mod keeping;
 mod moving;
 mod renumbering;
