@@ -11,7 +11,7 @@ use mir.Syntax.{w8}
 use mir.Val.{to_z, of_z}
 use mir.ValLaws.{to_z-of_z}
 use Rattle.closed.specs.Rows.{row, entry}
-use Rattle.closed.specs.Laws.Entries.{entry_small, entry_neg}
+use Rattle.closed.proofs.Laws.Entries.{entry_small, entry_neg}
 
 pub entry_back : (c t : ℕ) (z : ℤ) → c < 256 → z ≡ entry c t → to_z w8 (of_z w8 z) ≡ entry c t
 entry_back c t z h e =

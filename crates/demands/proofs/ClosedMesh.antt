@@ -12,11 +12,11 @@ use lib.Ieee.{Float, lt}
 use Rattle.closed.specs.Lists.{All}
 use Rattle.closed.specs.Faces.{Balanced, Apart, corners, faces}
 use Rattle.closed.specs.Numbering.{used}
-use Rattle.closed.specs.Laws.Turning.{faces_corners, length_corners}
+use Rattle.closed.proofs.Laws.Turning.{faces_corners, length_corners}
 use Rattle.closed.specs.Grid.{grid_faces, Outer}
 use Rattle.grid.specs.Grid.{Counts, grid_of, lattice_of}
 use Rattle.grid.specs.Laws.Rows.{cube_counts}
-use Rattle.levels.specs.Laws.BoundaryAlike.{boundary_alike, outer}
+use Rattle.levels.proofs.Laws.BoundaryAlike.{boundary_alike, outer}
 use Rattle.cells.specs.Extraction.{is_below, below_at, extracted_faces, extracted_vertices, vertex_edges, edge_faces}
 use Rattle.extract.specs.Laws.Claims.{one_to_one, places, three_different, faces_counted, closed}
 use Rattle.meshes.specs.FlatMesh.{vertex_count}

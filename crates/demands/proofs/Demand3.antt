@@ -9,9 +9,9 @@ use lib.Ieee.{Float}
 use Rattle.lists.specs.Lists.{zero32}
 use Rattle.lists.specs.Laws.Padded.{take_padded}
 use Rattle.closed.specs.Faces.{corners}
-use Rattle.closed.specs.Laws.Turning.{length_corners}
+use Rattle.closed.proofs.Laws.Turning.{length_corners}
 use Rattle.closed.specs.Grid.{node}
-use Rattle.closed.specs.Laws.Crossings.{node_lt}
+use Rattle.closed.proofs.Laws.Crossings.{node_lt}
 use Rattle.points.specs.Points.{usables}
 use Rattle.settings.specs.declared.Settings.{Settings}
 use Rattle.answers.specs.declared.Answer.{Answer}

@@ -16,14 +16,14 @@ use Rattle.lists.specs.Laws.Tabulate.{at_tabulate}
 use Rattle.closed.specs.Lists.{All, member, In}
 use Rattle.closed.specs.Faces.{Face, corners}
 use Rattle.closed.specs.Numbering.{note, grow, dedup, used, index_of, slot, mesh}
-use Rattle.closed.specs.Laws.Mesh.{mesh_corners, mesh_length, used_member}
-use Rattle.closed.specs.Laws.Renumber.{in_or_not, in_note, note_old, note_new, index_of_lt, index_of_grow, index_of_new, member_grow, slot_in, in_all}
+use Rattle.closed.proofs.Laws.Mesh.{mesh_corners, mesh_length, used_member}
+use Rattle.closed.proofs.Laws.Renumber.{in_or_not, in_note, note_old, note_new, index_of_lt, index_of_grow, index_of_new, member_grow, slot_in, in_all}
 use Rattle.grid.specs.Grid.{Counts}
 use Rattle.grid.specs.declared.Lattice.{Lattice}
 use Rattle.cells.specs.Extraction.{count_x, count_y, count_z, points_of, edge_point, edge_faces, vertex_edges, extracted_faces, extracted_vertices}
 use Rattle.meshes.specs.declared.MeshSize.{MeshSize}
 use Rattle.cells.specs.Laws.Cells.{edges_below, block_faces_lem}
-use Rattle.closed.specs.Laws.Turning.{length_corners}
+use Rattle.closed.proofs.Laws.Turning.{length_corners}
 use Rattle.cells.specs.Words.{block_faces}
 use Rattle.numbering.specs.Words.{none, edge_table}
 use Rattle.extract.specs.Words.{Places, place1, place_all, vertex_in, RoomFor, Written, Mesh}

@@ -15,8 +15,8 @@ use lib.Seq.{sets, length-sets}
 use Rattle.closed.specs.Lists.{cells}
 use Rattle.closed.specs.Faces.{Face, face, map_face, corners}
 use Rattle.closed.specs.Rows.{emitted}
-use Rattle.closed.specs.Laws.Counting.{cells_one_more}
-use Rattle.closed.specs.Laws.Turning.{corners_append, length_corners}
+use Rattle.closed.proofs.Laws.Counting.{cells_one_more}
+use Rattle.closed.proofs.Laws.Turning.{corners_append, length_corners}
 use Rattle.grid.specs.declared.Lattice.{Lattice}
 use Rattle.cells.specs.Extraction.{edge_point}
 use Rattle.cells.specs.Words.{row_faces}

@@ -3,3 +3,4 @@ pub mod Fronts
 pub mod OneAfterOther
 -- No second outcome fits.
 pub mod OneAnswer
+pub mod Laws

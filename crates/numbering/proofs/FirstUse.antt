@@ -11,7 +11,7 @@ use Rattle.lists.specs.Laws.Tabulate.{tabulate_ext, tabulate_same}
 use Rattle.closed.specs.Lists.{All}
 use Rattle.closed.specs.Faces.{Face, corners}
 use Rattle.closed.specs.Numbering.{dedup, used, slot}
-use Rattle.closed.specs.Laws.Renumber.{slot_nil}
+use Rattle.closed.proofs.Laws.Renumber.{slot_nil}
 use Rattle.grid.specs.Grid.{Counts}
 use Rattle.grid.specs.declared.Lattice.{Lattice}
 use Rattle.cells.specs.Extraction.{count_x, count_y, count_z, edge_faces, vertex_edges}

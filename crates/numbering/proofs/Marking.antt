@@ -15,9 +15,9 @@ use Rattle.lists.specs.Laws.Tabulate.{tabulate_by, at_tabulate, length_tabulate}
 use Rattle.closed.specs.Lists.{All, member, In, cells}
 use Rattle.closed.specs.Faces.{Face, corners}
 use Rattle.closed.specs.Numbering.{note, grow, slot}
-use Rattle.closed.specs.Laws.Counting.{same?, cells_one_more}
-use Rattle.closed.specs.Laws.Turning.{corners_append, length_corners}
-use Rattle.closed.specs.Laws.Renumber.{in_or_not, note_old, slot_in, slot_out, slot_note_new, slot_note_other, length_note_new}
+use Rattle.closed.proofs.Laws.Counting.{same?, cells_one_more}
+use Rattle.closed.proofs.Laws.Turning.{corners_append, length_corners}
+use Rattle.closed.proofs.Laws.Renumber.{in_or_not, note_old, slot_in, slot_out, slot_note_new, slot_note_other, length_note_new}
 use Rattle.numbering.specs.Words.{Marks, mark1, mark_all, Numbered, Few}
 use Rattle.meshes.specs.declared.MeshSize.{MeshSize}
 

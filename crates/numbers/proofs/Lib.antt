@@ -1,2 +1,3 @@
 -- No second outcome fits.
 pub mod OneAnswer
+pub mod Laws

@@ -8,9 +8,11 @@ use lib.Ieee.{Float, nan, inf, fin, binary32, round, of_bits, lt, le, is_nan}
 use lib.Ieee.Scale.{finite}
 use Rattle.numbers.specs.Constants.{trillionth32}
 use Rattle.numbers.specs.Arithmetic.{rooted}
-use Rattle.numbers.specs.Laws.RootOrder.{rooted_mono}
-use Rattle.numbers.specs.Laws.SumOfSquares.{Square, none, far, some, lt_le, le_not, not_negative}
-use Rattle.numbers.specs.Laws.RootSquares.{HeldSquare, root_held}
+use Rattle.numbers.proofs.Laws.RootOrder.{rooted_mono}
+use Rattle.numbers.proofs.Laws.SumOfSquares.{lt_le, le_not, not_negative}
+use Rattle.numbers.specs.Laws.SumOfSquares.{Square, none, far, some}
+use Rattle.numbers.proofs.Laws.RootSquares.{root_held}
+use Rattle.numbers.specs.Laws.RootSquares.{HeldSquare}
 use Rattle.points.specs.Points.{length_usability, is_usable}
 
 -- ---- the two bounds, 1e-24 and 1e30 as the code's literals stand in a goal, and their roots

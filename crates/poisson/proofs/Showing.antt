@@ -7,7 +7,7 @@ use native.Mathlib.Omega.{arith}
 use lib.ListN.{length, take}
 use lib.Ieee.{Float}
 use Rattle.closed.specs.Faces.{corners}
-use Rattle.closed.specs.Laws.Turning.{length_corners}
+use Rattle.closed.proofs.Laws.Turning.{length_corners}
 use Rattle.points.specs.declared.point.Point.{Point}
 use Rattle.settings.specs.declared.Settings.{Settings}
 use Rattle.answers.specs.declared.Answer.{Answer}

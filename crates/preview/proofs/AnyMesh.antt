@@ -16,10 +16,10 @@ use Rattle.closed.specs.Lists.{bit, sum3}
 use Rattle.closed.specs.Numbering.{used}
 use Rattle.closed.specs.Table.{differ}
 use Rattle.closed.specs.Grid.{grid_faces, crossed_count}
-use Rattle.closed.specs.Laws.Sums.{sum3_le, sum3_const}
-use Rattle.closed.specs.Laws.Counting.{bit_le}
-use Rattle.closed.specs.Laws.Vertices.{vertices_count}
-use Rattle.closed.specs.Laws.Bounds.{faces_le}
+use Rattle.closed.proofs.Laws.Sums.{sum3_le, sum3_const}
+use Rattle.closed.proofs.Laws.Counting.{bit_le}
+use Rattle.closed.proofs.Laws.Vertices.{vertices_count}
+use Rattle.closed.proofs.Laws.Bounds.{faces_le}
 use Rattle.grid.specs.Grid.{grid_of, lattice_of}
 use Rattle.points.specs.declared.point.Point.{Point}
 use Rattle.points.specs.Points.{numbers_per_point, given, usables}

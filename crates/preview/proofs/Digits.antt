@@ -8,8 +8,8 @@ use native.Mathlib.Omega.{arith}
 use borrow.Author.Tests.{eqb-true}
 use lib.Dec.{ltb, eqb}
 use Rattle.closed.specs.Lists.{member, upto, In}
-use Rattle.closed.specs.Laws.Counting.{every_all}
-use Rattle.closed.specs.Laws.Renumber.{all_in, in_at, at_upto}
+use Rattle.closed.proofs.Laws.Counting.{every_all}
+use Rattle.closed.proofs.Laws.Renumber.{all_in, in_at, at_upto}
 use Rattle.preview.specs.Preview.{hex_digit, in_hex}
 
 pub digit_is : (d : ℕ) → d < 16 → hex_digit d ≡ cond (ltb d 10) (48 + d) (55 + d)

@@ -8,7 +8,7 @@ use lib.ListN.{length}
 use lib.Ieee.{Float}
 use Rattle.lists.specs.Laws.Tabulate.{length_tabulate}
 use Rattle.closed.specs.Faces.{Face, corners, faces}
-use Rattle.closed.specs.Laws.Turning.{faces_corners, length_corners}
+use Rattle.closed.proofs.Laws.Turning.{faces_corners, length_corners}
 use Rattle.grid.specs.declared.Grid.{Grid}
 use Rattle.grid.specs.declared.Lattice.{Lattice}
 use Rattle.grid.specs.Grid.{Counts, lattice_of}

@@ -6,8 +6,9 @@ use mathlib.Core.Bool.{Bool, true, false, cond, not, ◌&&◌, ◌||◌, true≢
 use mathlib.Core.List.{List, [], ◌∷◌, map, foldl}
 use lib.Ieee.{Float, nan, inf, fin, binary32, sub, lt, is_nan}
 use Rattle.numbers.specs.Arithmetic.{rooted}
-use Rattle.numbers.specs.Laws.SumOfSquares.{mul_square, add_square, is_nan_mul, is_nan_add, is_nan_sub}
-use Rattle.numbers.specs.Laws.RootSquares.{HeldSquare, root_nan, roots_agree}
+use Rattle.numbers.proofs.Laws.SumOfSquares.{mul_square, add_square, is_nan_mul, is_nan_add, is_nan_sub}
+use Rattle.numbers.proofs.Laws.RootSquares.{root_nan, roots_agree}
+use Rattle.numbers.specs.Laws.RootSquares.{HeldSquare}
 use Rattle.lists.specs.Lists.{at}
 use Rattle.points.specs.declared.point.Point.{Point}
 use Rattle.search.specs.declared.brute.Least.{Least}

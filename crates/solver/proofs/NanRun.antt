@@ -13,8 +13,8 @@ use Rattle.grid.specs.Grid.{all_nodes}
 use Rattle.laplacian.specs.Laplacian.{applied}
 use Rattle.numbers.specs.Constants.{zero64}
 use Rattle.vectors.specs.Vectors.{dotted, plus_at, minus_at}
-use Rattle.numbers.specs.Laws.NanThrough.{add_nan, sub_nan, nan_mul, nan_div, nan_narrowed, nan_rooted, nan_le}
-use Rattle.vectors.specs.Laws.Dotted.{dotted_nan}
+use Rattle.numbers.proofs.Laws.NanThrough.{add_nan, sub_nan, nan_mul, nan_div, nan_narrowed, nan_rooted, nan_le}
+use Rattle.vectors.proofs.Laws.Dotted.{dotted_nan}
 use Rattle.solver.specs.Solver.{State, pap_of, stops, alpha_of, next, steps}
 
 abbrev nans : (g : Grid) → List Float

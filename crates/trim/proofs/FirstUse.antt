@@ -15,10 +15,10 @@ use Rattle.lists.specs.Laws.Fill.{fill_below}
 use Rattle.closed.specs.Lists.{member, In}
 use Rattle.closed.specs.Faces.{Face, faces, face_of, corners}
 use Rattle.closed.specs.Numbering.{note, grow, dedup, index_of, used, renumber, mesh, slot}
-use Rattle.closed.specs.Laws.Counting.{at_map}
-use Rattle.closed.specs.Laws.Mesh.{face_cong}
-use Rattle.closed.specs.Laws.Renumber.{in_head, in_tail, note_old, member_grow, dedup_append, index_of_grow, slot_in, slot_nil, in_of_slot, out_of_slot, slot_note_new, slot_note_other, length_note_new}
-use Rattle.closed.specs.Laws.Turning.{corners_append, length_faces}
+use Rattle.closed.proofs.Laws.Counting.{at_map}
+use Rattle.closed.proofs.Laws.Mesh.{face_cong}
+use Rattle.closed.proofs.Laws.Renumber.{in_head, in_tail, note_old, member_grow, dedup_append, index_of_grow, slot_in, slot_nil, in_of_slot, out_of_slot, slot_note_new, slot_note_other, length_note_new}
+use Rattle.closed.proofs.Laws.Turning.{corners_append, length_faces}
 use Rattle.meshes.specs.FlatMesh.{face_count, corners_at, put_face, Corners}
 use Rattle.meshes.specs.Laws.FlatFaces.{no_face, face_read, FacesFilled, faces_none, faces_now, faces_more}
 use Rattle.trim.specs.Words.{Slots, Noted, Renumbered}

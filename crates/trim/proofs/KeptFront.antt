@@ -10,8 +10,8 @@ use lib.ListN.{length, get_or, set, take, length-append}
 use lib.Seq.{take-suc, take_all, take-suc-set, get_or-set_other}
 use Rattle.closed.specs.Lists.{keep}
 use Rattle.closed.specs.Faces.{Face, faces, face_of}
-use Rattle.closed.specs.Laws.Counting.{keep_append}
-use Rattle.closed.specs.Laws.Turning.{length_faces}
+use Rattle.closed.proofs.Laws.Counting.{keep_append}
+use Rattle.closed.proofs.Laws.Turning.{length_faces}
 use Rattle.meshes.specs.FlatMesh.{face_count, corners_at, put_face}
 use Rattle.meshes.specs.Laws.FlatFaces.{no_face, face_read, face_put, length_put}
 

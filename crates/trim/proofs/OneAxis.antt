@@ -11,7 +11,7 @@ use lib.Seq.{get_or-set_same, get_or-set_other}
 use lib.Ieee.{Float, nan}
 use Rattle.lists.specs.Lists.{at}
 use Rattle.closed.specs.Numbering.{index_of, slot, NoRepeat}
-use Rattle.closed.specs.Laws.Renumber.{in_or_not, in_at, at_index_of, index_of_at, slot_in, slot_out}
+use Rattle.closed.proofs.Laws.Renumber.{in_or_not, in_at, at_index_of, index_of_at, slot_in, slot_out}
 use Rattle.meshes.specs.FlatMesh.{vertex_count, coordinate}
 use Rattle.trim.specs.Words.{Slots, carried, gathered, scattered}
 

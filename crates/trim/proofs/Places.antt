@@ -12,12 +12,12 @@ use Rattle.lists.specs.Lists.{at}
 use Rattle.closed.specs.Lists.{bit, member, In, keep}
 use Rattle.closed.specs.Faces.{Face, faces, corners}
 use Rattle.closed.specs.Numbering.{used, index_of, NoRepeat}
-use Rattle.closed.specs.Laws.Sums.{sum_le, sum_const}
-use Rattle.closed.specs.Laws.Counting.{bit_le}
-use Rattle.closed.specs.Laws.Renumber.{in_at, in_all, at_index_of, index_of_lt}
-use Rattle.closed.specs.Laws.Mesh.{in_keep, used_member, used_no_repeat}
-use Rattle.closed.specs.Laws.Vertices.{length_members}
-use Rattle.closed.specs.Laws.Turning.{corners_append, corners_faces, length_corners, length_faces}
+use Rattle.closed.proofs.Laws.Sums.{sum_le, sum_const}
+use Rattle.closed.proofs.Laws.Counting.{bit_le}
+use Rattle.closed.proofs.Laws.Renumber.{in_at, in_all, at_index_of, index_of_lt}
+use Rattle.closed.proofs.Laws.Mesh.{in_keep, used_member, used_no_repeat}
+use Rattle.closed.proofs.Laws.Vertices.{length_members}
+use Rattle.closed.proofs.Laws.Turning.{corners_append, corners_faces, length_corners, length_faces}
 use Rattle.meshes.specs.FlatMesh.{vertex_count, face_count, coordinate, Meshed}
 use Rattle.trim.specs.Trim.{places_of}
 use Rattle.trim.specs.Laws.TrimmedMesh.{length_places}

@@ -11,9 +11,9 @@ use Rattle.lists.specs.Lists.{zero32, zeros32, zeros_u, padded}
 use Rattle.lists.specs.Laws.Padded.{cleared_padded}
 use Rattle.closed.specs.Faces.{Face, faces, corners}
 use Rattle.closed.specs.Numbering.{note, grow, dedup, used, mesh, slot}
-use Rattle.closed.specs.Laws.Renumber.{in_or_not, in_at, index_of_lt, note_old, length_note_new, slot_in, slot_out}
-use Rattle.closed.specs.Laws.Mesh.{mesh_length}
-use Rattle.closed.specs.Laws.Turning.{length_corners, length_faces, corners_faces}
+use Rattle.closed.proofs.Laws.Renumber.{in_or_not, in_at, index_of_lt, note_old, length_note_new, slot_in, slot_out}
+use Rattle.closed.proofs.Laws.Mesh.{mesh_length}
+use Rattle.closed.proofs.Laws.Turning.{length_corners, length_faces, corners_faces}
 use Rattle.points.specs.declared.point.Point.{Point}
 use Rattle.meshes.specs.FlatMesh.{vertex_count, face_count, Meshed}
 use Rattle.settings.specs.declared.Trimming.TheVariants.{Off, Within}

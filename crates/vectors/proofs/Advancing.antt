@@ -13,7 +13,8 @@ use Rattle.grid.specs.declared.Grid.{Grid}
 use Rattle.grid.specs.Grid.{all_nodes}
 use Rattle.numbers.specs.Constants.{zero64}
 use Rattle.vectors.specs.Vectors.{dotted, plus_at, minus_at}
-use Rattle.vectors.specs.Laws.Dotted.{Summed, summed_none, summed_more, summed_done}
+use Rattle.vectors.proofs.Laws.Dotted.{summed_none, summed_more, summed_done}
+use Rattle.vectors.specs.Laws.Dotted.{Summed}
 use Rattle.vectors.specs.Words.{Advanced}
 
 module _ (alpha : Float) (x₀ r₀ p ap' : List Float) where

@@ -2,3 +2,4 @@
 pub mod Advancing
 -- No second outcome fits.
 pub mod OneAnswer
+pub mod Laws

@@ -9,9 +9,9 @@ use Rattle.std.specs.Float.Ieee.Bits.{is_true}
 use Rattle.std.specs.Float.Ieee.Positive.{positive, positive-finite, between, mul_mono}
 use Rattle.numbers.specs.Constants.{half64, three64, six64}
 use Rattle.numbers.specs.Arithmetic.{clamped, ceiled}
-use Rattle.numbers.specs.Laws.Comparing.{holds}
-use Rattle.numbers.specs.Laws.Between.{clamped_in}
-use Rattle.numbers.specs.Laws.Floors.{ceiled_least}
+use Rattle.numbers.proofs.Laws.Comparing.{holds}
+use Rattle.numbers.proofs.Laws.Between.{clamped_in}
+use Rattle.numbers.proofs.Laws.Floors.{ceiled_least}
 use Rattle.blur.specs.Blur.{sigma_of, radius_of}
 
 -- ---- the numbers here

@@ -13,10 +13,10 @@ use Rattle.closed.specs.Faces.{Face, face, map_face, corners}
 use Rattle.closed.specs.Table.{corner_at, low_of, cube_axis, case_of}
 use Rattle.closed.specs.Rows.{emitted}
 use Rattle.closed.specs.Grid.{node, edge, corner_below, cell_case, cell_edge, cell_faces, grid_faces}
-use Rattle.closed.specs.Laws.Counting.{bit_le, cells_cong, all_map}
-use Rattle.closed.specs.Laws.Bounds.{case_of_lt}
-use Rattle.closed.specs.Laws.Renumber.{in_all}
-use Rattle.closed.specs.Laws.Crossings.{used_crossed, crossed_lt}
+use Rattle.closed.proofs.Laws.Counting.{bit_le, cells_cong, all_map}
+use Rattle.closed.proofs.Laws.Bounds.{case_of_lt}
+use Rattle.closed.proofs.Laws.Renumber.{in_all}
+use Rattle.closed.proofs.Laws.Crossings.{used_crossed, crossed_lt}
 use Rattle.grid.specs.Grid.{Counts, Position, node_at}
 use Rattle.grid.specs.Laws.Numbering.{line_node}
 use Rattle.grid.specs.declared.Lattice.{Lattice}

@@ -9,7 +9,7 @@ use native.Mathlib.Omega.{arith}
 use Rattle.lists.specs.Lists.{at}
 use Rattle.closed.specs.Lists.{bit, sum, cells}
 use Rattle.closed.specs.Faces.{Face}
-use Rattle.closed.specs.Laws.Counting.{bit_le, same?}
+use Rattle.closed.proofs.Laws.Counting.{bit_le, same?}
 use Rattle.cells.specs.Extraction.{is_below}
 use Rattle.cells.specs.Words.{side_at, below_count, line_below, plain_line, case_at, row_faces, edge_offsets, faces_at, line_faces}
 use Rattle.cells.specs.Laws.Cells.{two_sides}

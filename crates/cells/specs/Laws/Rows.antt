@@ -6,7 +6,7 @@ use Rattle.std.proofs.lemmas.List.{length-map}
 use Rattle.closed.specs.Faces.{Face, face, map_face, face_of}
 use Rattle.closed.specs.Rows.{rows, row, triangles, emitted}
 use Rattle.closed.specs.Grid.{edge}
-use Rattle.closed.specs.Laws.Bounds.{emitted_le}
+use Rattle.closed.proofs.Laws.Bounds.{emitted_le}
 use Rattle.cubes.specs.Laws.Emitted.{OfCube, face_edges}
 use Rattle.cells.specs.Words.{case_at, row_faces, edge_offsets, faces_at, EdgesIn, CubeFace}
 use Rattle.cells.specs.Laws.Cells.{edge_small, offset_at, case_below}

@@ -4,9 +4,9 @@ use Rattle.std.specs.Prelude.{◌≡◌, refl, Bool, true, cond, ◌&&◌, List,
 use Rattle.std.proofs.Common.{ap, ◌∙◌, arith, leb-true, ltb-true, eqb-true}
 use Rattle.closed.specs.Lists.{bit, every}
 use Rattle.closed.specs.Table.{cube_edges, corner_at, ends_of, cube_axis, low_of}
-use Rattle.closed.specs.Laws.Counting.{both_true, every_all}
-use Rattle.closed.specs.Laws.Renumber.{all_in}
-use Rattle.closed.specs.Laws.Tested.{in_cube_edges}
+use Rattle.closed.proofs.Laws.Counting.{both_true, every_all}
+use Rattle.closed.proofs.Laws.Renumber.{all_in}
+use Rattle.closed.proofs.Laws.Tested.{in_cube_edges}
 use Rattle.cubes.specs.Words.{place_of, pair_of}
 
 -- what passes a test at each of the twelve

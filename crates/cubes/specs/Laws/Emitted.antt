@@ -4,7 +4,7 @@ use Rattle.std.specs.Prelude.{List, [], ◌∷◌, ℕ, suc, ◌+◌, ◌*◌, �
 use Rattle.closed.specs.Lists.{All}
 use Rattle.closed.specs.Faces.{Face, face, corners}
 use Rattle.closed.specs.Rows.{emitted}
-use Rattle.closed.specs.Laws.Entries.{row_right, emitted_length, emitted_at}
+use Rattle.closed.proofs.Laws.Entries.{row_right, emitted_length, emitted_at}
 
 abbrev pub OfCube : Face → Type 0
 OfCube f = All (λ e. e < 12) (corners (f ∷ []))

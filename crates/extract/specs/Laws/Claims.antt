@@ -8,7 +8,8 @@ use Rattle.closed.specs.Faces.{Balanced, Apart}
 use Rattle.closed.specs.Numbering.{used}
 use Rattle.closed.specs.Rows.{triangles}
 use Rattle.closed.specs.Grid.{cell_case, grid_faces, Outer}
-use Rattle.closed.specs.Laws.Claims.{OneToOne, Sound, grid_sound, grid_closed}
+use Rattle.closed.proofs.Laws.Claims.{grid_sound, grid_closed}
+use Rattle.closed.specs.Laws.Claims.{OneToOne, Sound}
 use Rattle.grid.specs.Grid.{Counts}
 use Rattle.grid.specs.declared.Lattice.{Lattice}
 use Rattle.cells.specs.Extraction.{count_x, count_y, count_z, below, edge_faces, vertex_edges, extracted_faces, extracted_vertices, edge_point, points_of}

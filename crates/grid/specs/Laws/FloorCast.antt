@@ -14,7 +14,7 @@ use Rattle.std.specs.Float.Ieee.Bits.{of_bits-fits}
 use Rattle.std.specs.Float.Ieee.Exact.{HasValue}
 use Rattle.std.specs.Float.Ieee.Back.{round_whole, unsigned_back}
 use Rattle.numbers.specs.Arithmetic.{floored, clamped}
-use Rattle.numbers.specs.Laws.Steps.{whole_step, part_step, large_whole, cut_lt}
+use Rattle.numbers.proofs.Laws.Steps.{whole_step, part_step, large_whole, cut_lt}
 use Rattle.grid.specs.Grid.{placed}
 
 -- what is below zero casts to 0

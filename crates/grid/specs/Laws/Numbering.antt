@@ -5,7 +5,7 @@ use Rattle.std.specs.Prelude.{◌≡◌, refl, List, [], ◌∷◌, ℕ, ◌+◌
 use Rattle.std.proofs.Common.{ap, ◌∙◌, add_assoc, add-mul, mul_assoc, one-mul, div-add-mod', arith}
 use Rattle.std.proofs.Math.Arith.{digits_div, digits_mod}
 use Rattle.closed.specs.Grid.{node, edge}
-use Rattle.closed.specs.Laws.Crossings.{node_lt}
+use Rattle.closed.proofs.Laws.Crossings.{node_lt}
 use Rattle.grid.specs.Grid.{Position, node_at, coords_of, row_start, line_start, node_of, axis_of}
 use Rattle.grid.specs.Laws.Rows.{row_of}
 

@@ -5,7 +5,7 @@ use Rattle.std.proofs.Common.{sym, ap, ◌∙◌, arith, length-set}
 use Rattle.lists.specs.Lists.{tabulate}
 use Rattle.lists.specs.Laws.Fill.{Filled, filled_none, filled_more, filled_now, filled_done}
 use Rattle.closed.specs.Faces.{Face, face, faces, face_of, corners}
-use Rattle.closed.specs.Laws.Turning.{face_at, corners_faces, length_faces}
+use Rattle.closed.proofs.Laws.Turning.{face_at, corners_faces, length_faces}
 use Rattle.meshes.specs.FlatMesh.{vertex_count, face_count, Meshed, corners_at, put_face, Corners}
 
 -- a face of no list

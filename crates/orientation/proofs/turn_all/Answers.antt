@@ -1,8 +1,8 @@
 -- `orientation::turn_all` meets its contract: the faces before face t are turned (`FacesFilled`). Assumes nothing.
 use Rattle.std.proofs.Common.{sym, ap, ◌∙◌, map, ◌<◌, arith, get_or}
 use Rattle.std.proofs.Math.ListN.{length-map}
-use Rattle.closed.specs.Laws.Counting.{at_map}
-use Rattle.closed.specs.Laws.Turning.{length_faces}
+use Rattle.closed.proofs.Laws.Counting.{at_map}
+use Rattle.closed.proofs.Laws.Turning.{length_faces}
 use Rattle.lists.specs.Laws.Tabulate.{tabulate_by}
 use Rattle.meshes.specs.FlatMesh.{face_count}
 use Rattle.meshes.specs.Laws.FlatFaces.{no_face, faces_none, faces_now, faces_more, faces_done}

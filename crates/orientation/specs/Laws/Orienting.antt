@@ -9,8 +9,8 @@ use Rattle.std.specs.Float.{nan}
 use Rattle.std.specs.Float.Ieee.{binary64, of_bits, lt}
 use Rattle.closed.specs.Lists.{All}
 use Rattle.closed.specs.Faces.{Face, face, Balanced, Apart, turn, corners, faces}
-use Rattle.closed.specs.Laws.Counting.{all_at}
-use Rattle.closed.specs.Laws.Turning.{balanced_turn, all_apart_turn, length_corners}
+use Rattle.closed.proofs.Laws.Counting.{all_at}
+use Rattle.closed.proofs.Laws.Turning.{balanced_turn, all_apart_turn, length_corners}
 use Rattle.grid.specs.declared.Grid.{Grid}
 use Rattle.meshes.specs.FlatMesh.{vertex_count, Meshed}
 use Rattle.orientation.specs.Orientation.{agreement_of, oriented_faces}

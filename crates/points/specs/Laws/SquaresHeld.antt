@@ -2,7 +2,7 @@
 use Rattle.std.specs.Prelude.{Float}
 use Rattle.std.specs.Float.{binary32}
 use Rattle.std.specs.Float.Ieee.Fits.{add-fits}
-use Rattle.numbers.specs.Laws.SumOfSquares.{mul_square, add_square}
+use Rattle.numbers.proofs.Laws.SumOfSquares.{mul_square, add_square}
 use Rattle.numbers.specs.Laws.RootSquares.{HeldSquare}
 use Rattle.points.specs.Points.{squares_of}
 

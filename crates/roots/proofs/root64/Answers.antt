@@ -4,8 +4,8 @@ use Rattle.std.proofs.Common.{◌≡◌, true, T, refl, sym, ap, ◌∙◌, subs
 use Rattle.std.specs.Float.Ieee.{Float, binary64, fits, of_bits, div}
 use Rattle.std.specs.Float.Ieee.Bits.{of_bits-to_bits}
 use Rattle.numbers.specs.Arithmetic.{rooted}
-use Rattle.numbers.specs.Laws.Patterns.{no_nan}
-use Rattle.numbers.specs.Laws.RootCases.{positive_of, infinite_of, zero_of, other_of, pattern_of}
+use Rattle.numbers.proofs.Laws.Patterns.{no_nan}
+use Rattle.numbers.proofs.Laws.RootCases.{positive_of, infinite_of, zero_of, other_of, pattern_of}
 use Rattle.roots.proofs.root64.Goals as goal
 
 -- what owning an `f64` tells: the format holds it

@@ -6,7 +6,8 @@ use Rattle.std.specs.Float.Ieee.{prec, emax, hid, ones, of_bits}
 use Rattle.numbers.specs.Arithmetic.{rooted}
 use Rattle.numbers.specs.Laws.Squares.{IsRoot}
 use Rattle.numbers.specs.Laws.Patterns.{expo}
-use Rattle.numbers.specs.Laws.RootPattern.{Sizes, sizes, Known, known, power, wide, root_pattern}
+use Rattle.numbers.proofs.Laws.RootPattern.{sizes, known, root_pattern}
+use Rattle.numbers.specs.Laws.RootPattern.{Sizes, Known, power, wide}
 use Rattle.roots.specs.Words.{IsFormat, RootOf}
 use Rattle.roots.proofs.root_pattern.Goals as goal
 

@@ -1,7 +1,8 @@
 -- The goals of `roots::whole_root` that need more than the code says: `RootDivide` has its numbers. Assumes nothing.
 use Rattle.std.proofs.Common.{ℕ, ◌≡◌, ◌+◌, ◌-◌, ◌*◌, ◌/◌, ◌%◌, ◌^◌, ◌<◌, ◌≤◌, sym, subst, arith}
 use Rattle.numbers.specs.Laws.Squares.{IsRoot}
-use Rattle.numbers.specs.Laws.RootDivide.{Split, split_of, top_lt, rest_lt, lower_lt, q_le, over_small, square_small, exact, less, product_lt}
+use Rattle.numbers.proofs.Laws.RootDivide.{split_of, top_lt, rest_lt, lower_lt, q_le, over_small, square_small, exact, less, product_lt}
+use Rattle.numbers.specs.Laws.RootDivide.{Split}
 use Rattle.roots.proofs.whole_root.Goals as goal
 
 -- what the numbers are, where the upper half s of the root of t is known

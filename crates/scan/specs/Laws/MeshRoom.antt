@@ -8,10 +8,10 @@ use Rattle.std.proofs.Math.Nat.{mul-le-mul}
 use Rattle.std.proofs.Math.ListN.{length-append}
 use Rattle.closed.specs.Faces.{corners}
 use Rattle.closed.specs.Numbering.{mesh}
-use Rattle.closed.specs.Laws.Renumber.{in_at}
-use Rattle.closed.specs.Laws.Turning.{length_corners}
-use Rattle.closed.specs.Laws.Mesh.{mesh_length, corner_lt}
-use Rattle.closed.specs.Laws.Bounds.{faces_le, vertices_le}
+use Rattle.closed.proofs.Laws.Renumber.{in_at}
+use Rattle.closed.proofs.Laws.Turning.{length_corners}
+use Rattle.closed.proofs.Laws.Mesh.{mesh_length, corner_lt}
+use Rattle.closed.proofs.Laws.Bounds.{faces_le, vertices_le}
 use Rattle.grid.specs.declared.Lattice.{Lattice}
 use Rattle.grid.specs.Grid.{Counts}
 use Rattle.cells.specs.Extraction.{count_x, count_y, count_z, below, edge_faces, vertex_edges, extracted_faces, extracted_vertices, edge_point, points_of}

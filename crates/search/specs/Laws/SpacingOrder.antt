@@ -8,8 +8,9 @@ use Rattle.std.proofs.Math.Bool.{true, false}
 use Rattle.std.proofs.lemmas.Bool.{false≢true}
 use Rattle.std.specs.Float.{nan, inf, fin, binary32}
 use Rattle.std.specs.Float.Ieee.{of_bits, lt, is_nan}
-use Rattle.numbers.specs.Laws.SumOfSquares.{Square, far, some, lt_le, not_below, le_not, le_trans}
-use Rattle.numbers.specs.Laws.RootSquares.{root_held}
+use Rattle.numbers.proofs.Laws.SumOfSquares.{lt_le, not_below, le_not, le_trans}
+use Rattle.numbers.specs.Laws.SumOfSquares.{Square, far, some}
+use Rattle.numbers.proofs.Laws.RootSquares.{root_held}
 use Rattle.lists.specs.Lists.{zero32}
 use Rattle.lists.specs.EveryNth.{every_from}
 use Rattle.points.specs.declared.point.Point.{Point}

@@ -12,13 +12,13 @@ use Rattle.std.specs.Float.Ieee.Fits.{down_pos}
 use Rattle.lists.specs.Lists.{tabulate, zero32}
 use Rattle.lists.specs.Laws.Tabulate.{at_tabulate}
 use Rattle.numbers.specs.Arithmetic.{narrowed}
-use Rattle.numbers.specs.Laws.Symmetry.{round_zero}
+use Rattle.numbers.proofs.Laws.Symmetry.{round_zero}
 use Rattle.grid.specs.declared.Grid.{Grid}
 use Rattle.grid.specs.Grid.{all_nodes}
 use Rattle.laplacian.specs.Laplacian.{apply_at, applied, stencil_at}
 use Rattle.numbers.specs.Constants.{zero64}
 use Rattle.vectors.specs.Vectors.{dotted, plus_at, minus_at, less_at}
-use Rattle.numbers.specs.Laws.NanThrough.{nan_add, add_nan, mul_nan, nan_sub, sub_nan}
+use Rattle.numbers.proofs.Laws.NanThrough.{nan_add, add_nan, mul_nan, nan_sub, sub_nan}
 use Rattle.solver.specs.Solver.{State, started, stops, alpha_of, next, steps, norm_of, conjugate}
 use Rattle.solver.specs.Boundary.{BoundaryIs, ZeroOrNan, BoundaryUniform}
 

@@ -2,7 +2,7 @@
 -- Assumes nothing.
 use Rattle.std.proofs.Common.{List, ℕ, ◌≡◌, ◌*◌, ◌^◌, ◌≤◌, ◌<◌, arith, length, Float}
 use Rattle.closed.specs.Faces.{faces}
-use Rattle.closed.specs.Laws.Mesh.{used_no_repeat}
+use Rattle.closed.proofs.Laws.Mesh.{used_no_repeat}
 use Rattle.points.specs.declared.point.Point.{Point}
 use Rattle.points.specs.Points.{usables}
 use Rattle.meshes.specs.FlatMesh.{vertex_count, Meshed}

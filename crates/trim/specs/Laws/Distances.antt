@@ -3,7 +3,7 @@ use Rattle.std.specs.Prelude.{◌≡◌, refl, Bool, false, cond, ◌||◌, List
 use Rattle.std.proofs.Common.{ap, ◌∙◌}
 use Rattle.std.specs.Float.{nan, inf, fin, binary32}
 use Rattle.std.specs.Float.Ieee.{neg, mul, lt, eq, le}
-use Rattle.numbers.specs.Laws.Symmetry.{mul_neg_both}
+use Rattle.numbers.proofs.Laws.Symmetry.{mul_neg_both}
 use Rattle.closed.specs.Lists.{keep}
 use Rattle.closed.specs.Faces.{Face}
 use Rattle.points.specs.declared.point.Point.{Point}

@@ -8,10 +8,10 @@ use Rattle.std.specs.Float.Ieee.{mul}
 use Rattle.closed.specs.Lists.{All}
 use Rattle.closed.specs.Faces.{Face, Apart, corners, faces}
 use Rattle.closed.specs.Numbering.{used, mesh}
-use Rattle.closed.specs.Laws.Counting.{all_keep}
-use Rattle.closed.specs.Laws.Renumber.{in_at}
-use Rattle.closed.specs.Laws.Mesh.{mesh_apart, corner_lt}
-use Rattle.closed.specs.Laws.Turning.{length_corners}
+use Rattle.closed.proofs.Laws.Counting.{all_keep}
+use Rattle.closed.proofs.Laws.Renumber.{in_at}
+use Rattle.closed.proofs.Laws.Mesh.{mesh_apart, corner_lt}
+use Rattle.closed.proofs.Laws.Turning.{length_corners}
 use Rattle.points.specs.declared.point.Point.{Point}
 use Rattle.meshes.specs.FlatMesh.{Meshed}
 use Rattle.meshes.specs.Laws.FlatFaces.{meshed_corners}

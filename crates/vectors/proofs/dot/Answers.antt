@@ -1,6 +1,6 @@
 -- `vectors::dot` meets its contract: after i turns `s` is the sum of the first i products. Assumes nothing.
 use Rattle.std.proofs.Common.{arith}
-use Rattle.vectors.specs.Laws.Dotted.{summed_none, summed_more, summed_done}
+use Rattle.vectors.proofs.Laws.Dotted.{summed_none, summed_more, summed_done}
 use Rattle.vectors.proofs.dot.Goals as goal
 
 pub loop-i-init : goal.loop-i-init

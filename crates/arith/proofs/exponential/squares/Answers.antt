@@ -1,7 +1,7 @@
 -- `arith::squares`: one squaring less is left after a turn, and none at the end. Assumes nothing.
 use Rattle.std.proofs.Common.{ℕ, ◌≡◌, refl, sym, ap, ◌∙◌, arith}
 use Rattle.numbers.specs.Arithmetic.{squared}
-use Rattle.numbers.specs.Laws.Series.{squared_step}
+use Rattle.numbers.proofs.Laws.Series.{squared_step}
 use Rattle.arith.proofs.exponential.squares.Goals as goal
 
 pub loop-k-init : goal.loop-k-init

@@ -1,7 +1,7 @@
 -- `arith::terms`: one term less is left after a turn, and none at the end. Assumes nothing.
 use Rattle.std.proofs.Common.{ℕ, ◌≡◌, refl, sym, ap, ◌∙◌, arith}
 use Rattle.numbers.specs.Arithmetic.{series}
-use Rattle.numbers.specs.Laws.Series.{series_step}
+use Rattle.numbers.proofs.Laws.Series.{series_step}
 use Rattle.arith.proofs.exponential.terms.Goals as goal
 
 pub loop-m-init : goal.loop-m-init

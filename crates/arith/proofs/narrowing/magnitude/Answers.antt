@@ -1,6 +1,6 @@
 -- `arith::magnitude`: in the normal range one rounding of the whole pattern moves the exponent's field too, by `NarrowPattern`. Assumes nothing.
 use Rattle.std.proofs.Common.{◌*◌, ◌^◌, ◌<◌, ◌≤◌, arith}
-use Rattle.numbers.specs.Laws.NarrowPattern.{magnitude_normal}
+use Rattle.numbers.proofs.Laws.NarrowPattern.{magnitude_normal}
 use Rattle.arith.proofs.narrowing.magnitude.Goals as goal
 
 pub returns-then-wrapping_sub_u64-lt1143914305352105984 : goal.returns-then-wrapping_sub_u64-lt1143914305352105984

@@ -1,7 +1,7 @@
 -- `arith::narrow`: what `magnitude` gives, under the sign, is the pattern of the narrowed value, by `NarrowPattern`. Assumes nothing.
 use Rattle.std.proofs.Common.{◌≡◌, true, T, sym, subst, arith}
 use Rattle.std.specs.Float.Ieee.{Float, binary64, fits}
-use Rattle.numbers.specs.Laws.NarrowPattern.{bits_lt, under_nan, fits_32, narrowed_no_nan, narrowed_is, not_nan, nan_narrows}
+use Rattle.numbers.proofs.Laws.NarrowPattern.{bits_lt, under_nan, fits_32, narrowed_no_nan, narrowed_is, not_nan, nan_narrows}
 use Rattle.arith.proofs.narrowing.narrow.Goals as goal
 
 -- what owning an `f64` tells: the format holds it

@@ -1,5 +1,5 @@
 -- `arith::rounded`: `ClosestAdd` says that the sum rounds to nearest even. Assumes nothing.
-use Rattle.numbers.specs.Laws.ClosestAdd.{closest_shift}
+use Rattle.numbers.proofs.Laws.ClosestAdd.{closest_shift}
 use Rattle.arith.proofs.narrowing.rounded.Goals as goal
 
 pub returns : goal.returns

@@ -2,7 +2,7 @@
 -- Assumes nothing.
 use Rattle.std.proofs.Common.{◌-◌, ◌∙◌, arith}
 use lib.Count.{count_leading_zeros}
-use Rattle.numbers.specs.Laws.ClosestAdd.{lifted, closest_moved, closest_nothing}
+use Rattle.numbers.proofs.Laws.ClosestAdd.{lifted, closest_moved, closest_nothing}
 use Rattle.arith.proofs.narrowing.scaled.Goals as goal
 
 pub overflow_sub-z : goal.overflow_sub-z

@@ -1,5 +1,5 @@
 -- `arith::small`: the digits and the exponent of the two fields, by `NarrowPattern`. Assumes nothing.
-use Rattle.numbers.specs.Laws.NarrowPattern.{small_zero, small_field}
+use Rattle.numbers.proofs.Laws.NarrowPattern.{small_zero, small_field}
 use Rattle.arith.proofs.narrowing.small.Goals as goal
 
 pub returns-then-e-eq0 : goal.returns-then-e-eq0

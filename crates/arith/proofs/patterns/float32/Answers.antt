@@ -1,7 +1,7 @@
 -- `arith::float32`: a pattern above the infinity's is the NaN's, and no other is. Assumes nothing.
 use Rattle.std.proofs.Common.{sym, ◌∙◌}
 use Rattle.std.specs.Float.Ieee.{binary32}
-use Rattle.numbers.specs.Laws.NanTest.{zero_by_zero, above_infinity, up_to_infinity}
+use Rattle.numbers.proofs.Laws.NanTest.{zero_by_zero, above_infinity, up_to_infinity}
 use Rattle.arith.proofs.patterns.float32.Goals as goal
 
 pub returns-then-pattern-gt2139095040 : goal.returns-then-pattern-gt2139095040

@@ -1,7 +1,7 @@
 -- `arith::pattern64`: only a NaN differs from itself, and every other value has its own pattern. Assumes nothing.
 use Rattle.std.proofs.Common.{sym, ap}
 use Rattle.std.specs.Float.Ieee.{binary64, to_bits}
-use Rattle.numbers.specs.Laws.NanTest.{differs, same}
+use Rattle.numbers.proofs.Laws.NanTest.{differs, same}
 use Rattle.arith.proofs.patterns.pattern64.Goals as goal
 
 pub returns-then-x : goal.returns-then-x

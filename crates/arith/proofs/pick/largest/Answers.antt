@@ -1,6 +1,6 @@
 -- `arith::largest`: the definition picks by the same two tests, since only a NaN differs from itself. Assumes nothing.
 use Rattle.std.proofs.Common.{sym, ◌∙◌}
-use Rattle.numbers.specs.Laws.Comparing.{ne_itself}
+use Rattle.numbers.proofs.Laws.Comparing.{ne_itself}
 use Rattle.arith.proofs.pick.largest.Goals as goal
 
 pub returns-then-x : goal.returns-then-x

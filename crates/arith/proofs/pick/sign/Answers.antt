@@ -1,9 +1,9 @@
 -- `arith::sign`: only a NaN differs from itself, and the highest bit of a pattern is the sign. Assumes nothing.
 use Rattle.std.proofs.Common.{◌≡◌, true, not, T, sym, ◌∙◌, subst}
 use Rattle.std.specs.Float.Ieee.{Float, binary64, fits}
-use Rattle.numbers.specs.Laws.Comparing.{ne_itself}
-use Rattle.numbers.specs.Laws.NanTest.{differs, zero_by_zero}
-use Rattle.numbers.specs.Laws.Signs.{sign_clear, sign_set, sign_nan}
+use Rattle.numbers.proofs.Laws.Comparing.{ne_itself}
+use Rattle.numbers.proofs.Laws.NanTest.{differs, zero_by_zero}
+use Rattle.numbers.proofs.Laws.Signs.{sign_clear, sign_set, sign_nan}
 use Rattle.arith.proofs.pick.sign.Goals as goal
 
 -- what owning an `f64` tells: the format holds it

@@ -1,7 +1,7 @@
 -- `arith::above`: from 2 ^ 52 on a value is whole; under it the whole part and the number after it are floats exactly. Assumes nothing.
 use Rattle.std.proofs.Common.{◌≡◌, true, T, sym, subst, arith}
 use Rattle.std.specs.Float.Ieee.{Float, binary64, fits}
-use Rattle.numbers.specs.Laws.Steps.{in_range, q_lt, castable, castable_next, when_whole, ceil_part, from_limit}
+use Rattle.numbers.proofs.Laws.Steps.{in_range, q_lt, castable, castable_next, when_whole, ceil_part, from_limit}
 use Rattle.arith.proofs.steps.above.Goals as goal
 
 -- what owning an `f64` tells: the format holds it

@@ -1,7 +1,7 @@
 -- `arith::below`: from 2 ^ 52 on a value is whole; under it the whole part is a float exactly, and it is y where y is whole. Assumes nothing.
 use Rattle.std.proofs.Common.{◌≡◌, true, T, sym, subst}
 use Rattle.std.specs.Float.Ieee.{Float, binary64, fits}
-use Rattle.numbers.specs.Laws.Steps.{in_range, castable, when_whole, floor_part, from_limit}
+use Rattle.numbers.proofs.Laws.Steps.{in_range, castable, when_whole, floor_part, from_limit}
 use Rattle.arith.proofs.steps.below.Goals as goal
 
 -- what owning an `f64` tells: the format holds it

@@ -1,8 +1,8 @@
 -- `arith::floor`: below 0 it is the ceiling of -x, negated; a zero and a NaN stay. Assumes nothing.
 use Rattle.std.proofs.Common.{ap, ◌∙◌}
 use Rattle.std.specs.Float.Ieee.{neg}
-use Rattle.numbers.specs.Laws.Steps.{above_nought, below_nought, at_rest}
-use Rattle.numbers.specs.Laws.Symmetry.{ceiled_neg, neg_neg}
+use Rattle.numbers.proofs.Laws.Steps.{above_nought, below_nought, at_rest}
+use Rattle.numbers.proofs.Laws.Symmetry.{ceiled_neg, neg_neg}
 use Rattle.arith.proofs.steps.floor.Goals as goal
 
 pub below-requires : goal.below-requires

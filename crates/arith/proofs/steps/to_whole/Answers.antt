@@ -1,7 +1,7 @@
 -- `arith::to_whole`: between -1 and 2 ^ 64 it is std's cast, and past either end the end itself. Assumes nothing.
 use Rattle.std.specs.Float.Ieee.{of_bits, neg}
-use Rattle.numbers.specs.Laws.Comparing.{holds}
-use Rattle.numbers.specs.Laws.Casts.{cast_top, cast_none}
+use Rattle.numbers.proofs.Laws.Comparing.{holds}
+use Rattle.numbers.proofs.Laws.Casts.{cast_top, cast_none}
 use Rattle.arith.proofs.steps.to_whole.Goals as goal
 
 pub truncating_f64_to_u64-requires-clause-lower_bound : goal.truncating_f64_to_u64-requires-clause-lower_bound

@@ -1,7 +1,7 @@
 -- After k turns the first k nodes of the row are counted, so the count is k at most (`most`), and there are few nodes (`inside`).
 use Rattle.std.proofs.Common.{sym, ◌+◌, ◌<◌, ◌≤◌, arith, length}
 use Rattle.closed.specs.Lists.{bit}
-use Rattle.closed.specs.Laws.Sums.{sum_zero, sum_one_more}
+use Rattle.closed.proofs.Laws.Sums.{sum_zero, sum_one_more}
 use Rattle.lists.specs.Lists.{at}
 use Rattle.cells.specs.Extraction.{is_below}
 use Rattle.cells.specs.Laws.Plain.{bits_most}

@@ -1,6 +1,6 @@
 -- The edge's lower corner lies in the lattice (`corner_in`), so its node and its axis name an edge, and that is the definition's.
 use Rattle.std.proofs.Common.{arith, get_or}
-use Rattle.closed.specs.Laws.Crossings.{node_lt}
+use Rattle.closed.proofs.Laws.Crossings.{node_lt}
 use Rattle.grid.specs.Grid.{Position}
 use Rattle.cubes.specs.Laws.Edges.{axis_small}
 use Rattle.cells.specs.Laws.Cells.{corner_inside}

@@ -3,7 +3,7 @@
 use Rattle.std.proofs.Common.{◌≡◌, ◌∙◌, ap, subst, sym, ℕ, ◌<◌, lt_of_lt_of_le, arith, T, lit≤, ℤ, pos, nat_abs, get_or, length, w8, w64, Fits, to_z, of_z}
 use lib.Signed.{non_neg}
 use Rattle.closed.specs.Rows.{row, entry}
-use Rattle.closed.specs.Laws.Entries.{row_right, entry_in}
+use Rattle.closed.proofs.Laws.Entries.{row_right, entry_in}
 use Rattle.cubes.proofs.Signed.{entry_back}
 use Rattle.cubes.proofs.rows.row_edge.Goals as goal
 

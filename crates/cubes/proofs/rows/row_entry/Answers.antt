@@ -1,7 +1,7 @@
 -- `cubes::rows::row_entry` meets its contract.
 -- Assumes nothing.
 use Rattle.std.proofs.Common.{◌∙◌, ap, List, ◌+◌, ◌*◌, ℤ, pos, get_or}
-use Rattle.closed.specs.Laws.Entries.{entry_at}
+use Rattle.closed.proofs.Laws.Entries.{entry_at}
 use Rattle.cubes.proofs.Signed.{entry_back}
 use Rattle.cubes.proofs.rows.row_entry.Goals as goal
 

@@ -1,7 +1,7 @@
 -- `cubes::rows::row_face` meets its contract.
 -- Assumes nothing.
 use Rattle.std.proofs.Common.{sym, arith}
-use Rattle.closed.specs.Laws.Entries.{row_right, emitted_length, emitted_at}
+use Rattle.closed.proofs.Laws.Entries.{row_right, emitted_length, emitted_at}
 use Rattle.cubes.proofs.rows.row_face.Goals as goal
 
 pub overflow_mul-k : goal.overflow_mul-k

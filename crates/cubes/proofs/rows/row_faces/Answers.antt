@@ -2,8 +2,8 @@
 -- Assumes nothing.
 use Rattle.std.proofs.Common.{◌∙◌, sym, ◌*◌, arith, leb-true, leb-false, length}
 use Rattle.closed.specs.Rows.{row}
-use Rattle.closed.specs.Laws.Entries.{emitted_length}
-use Rattle.closed.specs.Laws.Bounds.{emitted_le}
+use Rattle.closed.proofs.Laws.Entries.{emitted_length}
+use Rattle.closed.proofs.Laws.Bounds.{emitted_le}
 use Rattle.cubes.proofs.Signed.{tested}
 use Rattle.cubes.proofs.rows.row_faces.Goals as goal
 

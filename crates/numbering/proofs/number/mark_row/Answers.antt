@@ -2,8 +2,8 @@
 use Rattle.std.proofs.Common.{◌≡◌, refl, sym, subst, ◌∙◌, ap, List, [], ◌∷◌, ℕ, ◌+◌, ◌<◌, ◌≤◌, arith, get_or, length}
 use Rattle.closed.specs.Faces.{Face, face, map_face, corners}
 use Rattle.closed.specs.Rows.{emitted}
-use Rattle.closed.specs.Laws.Bounds.{emitted_le}
-use Rattle.closed.specs.Laws.Turning.{corners_append, length_corners}
+use Rattle.closed.proofs.Laws.Bounds.{emitted_le}
+use Rattle.closed.proofs.Laws.Turning.{corners_append, length_corners}
 use Rattle.cells.specs.Words.{EdgesIn}
 use Rattle.numbering.specs.Words.{Marks, mark_all}
 use Rattle.numbering.proofs.Marking.{marks_append, marks_kept, marks_more}

@@ -1,6 +1,6 @@
 -- Cases 0 and 255 have no face, so nothing changes; every other case is its row's, and there are at most five faces more.
 use Rattle.std.proofs.Common.{sym, ◌∙◌, ap, ℕ, ◌+◌, ◌≤◌, arith, Fits-le, Fits-lit}
-use Rattle.closed.specs.Laws.Bounds.{emitted_le}
+use Rattle.closed.proofs.Laws.Bounds.{emitted_le}
 use Rattle.numbering.proofs.Marking.{numbered_none, numbered_as}
 use Rattle.cells.specs.Laws.Rows.{none_below, all_below, row_count}
 use Rattle.numbering.proofs.number.number_cell.Goals as goal

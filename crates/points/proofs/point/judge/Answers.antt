@@ -1,6 +1,6 @@
 -- `points::point::judge`: the definition makes the same two tests. Assumes nothing.
 use Rattle.std.proofs.Common.{sym, ◌∙◌}
-use Rattle.numbers.specs.Laws.ConstantValues.{trillionth_is}
+use Rattle.numbers.proofs.Laws.ConstantValues.{trillionth_is}
 use Rattle.points.specs.Points.{length_usability}
 use Rattle.points.proofs.point.judge.Goals as goal
 

@@ -1,6 +1,6 @@
 -- `search::spacing`: the larger of the median and its floor, and the list cleared. Assumes nothing.
 use Rattle.std.proofs.Common.{ap, ◌∙◌}
-use Rattle.numbers.specs.Laws.ConstantValues.{millionth_is}
+use Rattle.numbers.proofs.Laws.ConstantValues.{millionth_is}
 use Rattle.search.specs.Spacing.{spacing_of}
 use Rattle.lists.specs.Lists.{zeros32}
 use Rattle.search.proofs.neighbours.spacing.Goals as goal

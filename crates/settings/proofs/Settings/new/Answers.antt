@@ -1,5 +1,5 @@
 -- `settings::Settings::new`: the literals are the constants, and 1e-4's pattern is the fraction's. Assumes nothing.
-use Rattle.numbers.specs.Laws.ConstantValues.{ten_thousandth_is}
+use Rattle.numbers.proofs.Laws.ConstantValues.{ten_thousandth_is}
 use Rattle.settings.proofs.Settings.new.Goals as goal
 
 pub returns : goal.returns

@@ -5,7 +5,7 @@ use Rattle.std.specs.Float.{binary64}
 use Rattle.std.specs.Float.Ieee.{div, le}
 use Rattle.numbers.specs.Constants.{zero64}
 use Rattle.numbers.specs.Arithmetic.{rooted, narrowed}
-use Rattle.numbers.specs.Laws.NanTest.{differs}
+use Rattle.numbers.proofs.Laws.NanTest.{differs}
 use Rattle.grid.specs.declared.Grid.{Grid}
 use Rattle.laplacian.specs.Laplacian.{applied}
 use Rattle.vectors.specs.Vectors.{dotted}

@@ -1,5 +1,5 @@
 -- `points::Bounds::side`: the same operations on the extent. Assumes nothing.
-use Rattle.numbers.specs.Laws.ConstantValues.{tenth_is}
+use Rattle.numbers.proofs.Laws.ConstantValues.{tenth_is}
 use Rattle.points.specs.Box.{side_of}
 use Rattle.points.proofs.bounds.Bounds.side.Goals as goal
 
