@@ -1,22 +1,15 @@
 -- What a verdict that is tested for `Pass` tells: one that is not `Pass` does not accept (by cases, once), so it stands whatever would follow.
 -- Assumes nothing.
 use mathlib.Core.Path.{◌≡◌, refl, sym, ap, ◌∙◌}
+use mathlib.Core.Logic.{◌≢◌}
 use mathlib.Core.Bool.{Bool, false, cond}
-use mathlib.Core.List.{List, [], ◌∷◌}
-use Prim.Native.Nat.{ℕ}
-use types.Run.{OneOf, miss}
-use denote.Enum.Declared.{tag_of}
 use Rattle.answers.specs.Answers.{accepts, ◌then◌}
 use Rattle.answers.specs.declared.Verdict.{Verdict}
 use Rattle.answers.specs.declared.Verdict.TheVariants.{Pass, PointSlice, NoPoints, Depth, Smoothing, ScratchRoom, TooFew, Flat, VertexRoom, FaceRoom, NoFace}
-use Rattle.answers.specs.contracts.Verdict.{the_type}
 
--- the tags of all verdicts but `Pass`, as the `else` of `let Verdict::Pass = v else ..` is told them
-abbrev pub refusals : List ℕ
-refusals = 1 ∷ 2 ∷ 3 ∷ 4 ∷ 5 ∷ 6 ∷ 7 ∷ 8 ∷ 9 ∷ 10 ∷ []
-
-pub refuses : (v : Verdict) → OneOf refusals (tag_of the_type v) → accepts v ≡ false
-refuses Pass h = absurd (miss refusals 0 tt h)
+-- as the `else` of `let Verdict::Pass = v else ..` is told
+pub refuses : (v : Verdict) → v ≢ Pass → accepts v ≡ false
+refuses Pass h = absurd (h refl)
 refuses PointSlice h = refl
 refuses NoPoints h = refl
 refuses Depth h = refl
@@ -31,7 +24,7 @@ refuses NoFace h = refl
 -- ---- checks in a row: v is what was answered where p is right
 
 -- one that refuses stands
-pub stops : {p v : Verdict} (w : Verdict) → v ≡ p → OneOf refusals (tag_of the_type v) → v ≡ p then w
+pub stops : {p v : Verdict} (w : Verdict) → v ≡ p → v ≢ Pass → v ≡ p then w
 stops {p} {v} w e h = sym (ap (λ (b : Bool). cond b w v) (refuses v h)) ∙ ap (λ (u : Verdict). u then w) e
 
 -- after one that passes the next decides
