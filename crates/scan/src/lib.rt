@@ -1,6 +1,8 @@
 // Document 01, the stages of a call in the order of the data's way; the middle of `poisson_reconstruction` in the Rust's poisson.rs. What the two calls take
 // from below: the checks of the points, the grid, which is made once, and the field with its level; then what only the whole call needs, the mesh and the
 // answer. Lent slices have exactly the stated lengths here.
+#![tactic(auto)]
+
 ghost use Rattle.std.specs.Prelude.{◌≡◌, ◌≤◌, length};
 ghost use Rattle.points.specs.Points.{usables};
 ghost use Rattle.points.specs.Box.{bounds_of};
