@@ -1,5 +1,7 @@
 // The field alone, for who wants the values and not the mesh: the same checks as far as they do not speak of the mesh, the same stages as far as the level,
 // the same ending. The Rust has no such function. Nothing is required. `poisson` passes it on.
+#![tactic(auto)]
+
 ghost use Rattle.std.specs.Prelude.{◌≡◌, ◌^◌, ◌≤◌, length};
 ghost use Rattle.lists.specs.Lists.{zero32, padded};
 ghost use Rattle.points.specs.Points.{usables};
