@@ -1,6 +1,8 @@
 // Document 01, the whole call, beside `poisson_reconstruction` and `poisson_reconstruction_default` of the Rust's poisson.rs: the checks in their order, the
 // stages, and one ending that clears what is unused. "For every bit pattern of points and settings the call ends and stays inside the slices it was lent.
 // The caller checks nothing first": nothing is required. The crate `field_call` has the call that stops at the level.
+#![tactic(auto)]
+
 ghost use Rattle.std.specs.Prelude.{◌≡◌, ◌*◌, ◌^◌, ◌<◌, length};
 ghost use Rattle.points.specs.Points.{usables};
 ghost use Rattle.settings.specs.Settings.{defaults};
