@@ -1,5 +1,7 @@
 // The library for programs in other languages (include/hoardmagpie.h): numbers, slices as pointer and length, and two small arrays; no struct and no enum
 // crosses. Each exported function calls the one of the crate `poisson` and tells its answer; nothing else is done here, and nothing is required.
+#![tactic(auto)]
+
 ghost use Rattle.std.specs.Prelude.{◌≡◌};
 ghost use Rattle.settings.specs.Settings.{defaults};
 ghost use Rattle.scan.specs.Reconstruction.{reconstructed};

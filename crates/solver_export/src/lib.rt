@@ -1,5 +1,7 @@
 // Functions of `blur`, `laplacian`, `solver` and `levels` for C and Rust to call, so that they can be tested and timed on any processor. Each is that of
 // its crate, and its contract too. The caller keeps what a `requires` asks: lengths that fit. Nothing checks it at the boundary.
+#![tactic(auto)]
+
 ghost use Rattle.std.specs.Prelude.{◌≡◌, [], ◌∷◌, ◌*◌, ◌≤◌, length};
 ghost use Rattle.lists.specs.Lists.{tabulate};
 ghost use Rattle.grid.specs.Grid.{Sides};
