@@ -1,13 +1,15 @@
 // Document 01, "The preview program": reads a sheet from standard input and writes the mesh, or why there is none. Each line ends in a newline.
+#![tactic(auto)]
+
 ghost use Rattle.std.specs.Prelude.{◌≡◌, ◌<◌, ◌≤◌};
 ghost use Rattle.sheet.specs.Laws.SheetRoom.{Roomy};
 ghost use Rattle.preview.specs.Preview.{hex_digit, in_hex, Previewed};
 
 use answers::Answer;
-use std::io;
 use points::Point;
 use settings::Settings;
 use sheet::{Header, Sheet};
+use std::io;
 
 // A sheet is at most 24 + 24·256 = 6,168 bytes: one more is read, so that a longer one is seen to be.
 fn main(rt: HostRuntime) -> io::Result<()> {
@@ -100,7 +102,12 @@ fn tell_vertices(rt: &impl Print, vertices: &[f32], count: usize) -> io::Result<
         if count <= i {
             return Ok(());
         }
-        tell_vertex(rt, vertices[3 * i], vertices[3 * i + 1], vertices[3 * i + 2])?;
+        tell_vertex(
+            rt,
+            vertices[3 * i],
+            vertices[3 * i + 1],
+            vertices[3 * i + 2],
+        )?;
     }
     Ok(())
 }
