@@ -2,15 +2,17 @@
 // its name, its settings, how many of the field's values are to be shown, how long each lent slice is, and its points; `stdout` was written by the
 // oracle. Each call is made twice: for the mesh in slices of those lengths, then for the field alone in slices that are long enough. All slices are lent
 // full of rubbish; `left` and `field-left` count, slice by slice, what is not zero past the results and in all scratch.
+#![tactic(auto)]
+
 mod tell;
 mod words;
 
 ghost use Rattle.std.specs.Prelude.{◌<◌, ◌≤◌, length, IfOk};
 
 use answers::Answer;
-use std::io;
 use replay::read_decimal;
 use settings::Settings;
+use std::io;
 use tell::{
     digest_f32, digest_u32, left_f32, left_u32, tell_answer, tell_count, tell_digest,
     tell_field_answer, tell_values,
@@ -84,8 +86,7 @@ fn ask(
         points, settings, vertices, faces, s0, s1, s2, s3, s4, s5, s6, edges, distances,
     );
     report(
-        rt,
-        answer, vertices, faces, s0, s1, s2, s3, s4, s5, s6, edges, distances,
+        rt, answer, vertices, faces, s0, s1, s2, s3, s4, s5, s6, edges, distances,
     )
 }
 
@@ -181,7 +182,12 @@ fn cut(
 }
 
 // Room for grids of depth 5, full of rubbish.
-fn lend(rt: &impl Print, points: &[f32], settings: Settings, lengths: [usize; 11]) -> io::Result<()> {
+fn lend(
+    rt: &impl Print,
+    points: &[f32],
+    settings: Settings,
+    lengths: [usize; 11],
+) -> io::Result<()> {
     let mut vertices = [0.5f32; 32768];
     let mut faces = [7u32; 65536];
     let mut s0 = [0.5f32; 32768];
@@ -281,8 +287,7 @@ fn ask_field(
     );
     let n = nodes(answer.number, settings.depth);
     report_field(
-        rt,
-        answer, n, shown, field, s0, s1, s2, s3, s4, s5, s6, edges, distances,
+        rt, answer, n, shown, field, s0, s1, s2, s3, s4, s5, s6, edges, distances,
     )
 }
 
@@ -319,7 +324,13 @@ fn lend_field(rt: &impl Print, points: &[f32], settings: Settings, shown: usize)
 // ---- the list
 
 // The mesh, then the field.
-fn both(rt: &impl Print, points: &[f32], settings: Settings, shown: usize, lengths: [usize; 11]) -> io::Result<()> {
+fn both(
+    rt: &impl Print,
+    points: &[f32],
+    settings: Settings,
+    shown: usize,
+    lengths: [usize; 11],
+) -> io::Result<()> {
     lend(rt, points, settings, lengths)?;
     lend_field(rt, points, settings, shown)
 }
