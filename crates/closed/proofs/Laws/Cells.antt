@@ -19,7 +19,7 @@ use Rattle.closed.specs.Laws.Arcs.{ends, BalancedArcs}
 use Rattle.closed.proofs.Laws.Tested.{table_rule, sides_known, exact_known}
 use Rattle.closed.proofs.Laws.Closed.{closed_faces}
 use Rattle.closed.specs.Laws.Closed.{PerCell, Matched}
-use Rattle.closed.specs.Laws.Cells.{Growing}
+use Rattle.closed.specs.Laws.Cells.{Growing, side_x, side_y, side_z}
 
 -- ---- a map that takes a list to growing numbers takes different numbers to different numbers
 
@@ -93,24 +93,6 @@ side_even s p0 p1 p2 p3 q0 q1 q2 q3 e0 e1 e2 e3 = rw (e0, e1, e2, e3) (both s)
     both : (t : Bool) → side t t t t q0 q1 q2 q3 ≡ []
     both true = refl
     both false = refl
-
--- ---- the sides of the grid's cells: at x, beside the cells j k; at y, beside i k; at z, beside i j
-
-module _ (ny nz : ℕ) (below : ℕ → ℕ → ℕ → Bool) where
-  unfoldable pub side_x : ℕ → ℕ → ℕ → List Arc
-  side_x x j k =
-      side (below x (j + 0) (k + 0)) (below x (j + 1) (k + 0)) (below x (j + 1) (k + 1)) (below x (j + 0) (k + 1))
-      (edge (node ny nz x (j + 0) (k + 0)) 1) (edge (node ny nz x (j + 1) (k + 0)) 2) (edge (node ny nz x (j + 0) (k + 1)) 1) (edge (node ny nz x (j + 0) (k + 0)) 2)
-
-  unfoldable pub side_y : ℕ → ℕ → ℕ → List Arc
-  side_y i y k =
-      side (below (i + 0) y (k + 0)) (below (i + 0) y (k + 1)) (below (i + 1) y (k + 1)) (below (i + 1) y (k + 0))
-      (edge (node ny nz (i + 0) y (k + 0)) 2) (edge (node ny nz (i + 0) y (k + 1)) 0) (edge (node ny nz (i + 1) y (k + 0)) 2) (edge (node ny nz (i + 0) y (k + 0)) 0)
-
-  unfoldable pub side_z : ℕ → ℕ → ℕ → List Arc
-  side_z i j z =
-      side (below (i + 0) (j + 0) z) (below (i + 1) (j + 0) z) (below (i + 1) (j + 1) z) (below (i + 0) (j + 1) z)
-      (edge (node ny nz (i + 0) (j + 0) z) 0) (edge (node ny nz (i + 1) (j + 0) z) 1) (edge (node ny nz (i + 0) (j + 1) z) 0) (edge (node ny nz (i + 0) (j + 0) z) 1)
 
 -- ---- what holds of all corners of faces holds of the ends of their arcs, and of those of the arcs the other way round
 

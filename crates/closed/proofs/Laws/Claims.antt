@@ -2,23 +2,24 @@
 -- Numbering, Table, Rows, Grid. `grid_faces nx ny nz below` are the faces over edge numbers of a grid whose node i j k is below the level where `below i j k`
 -- says so, `mesh` the same faces over vertex numbers, `used` the edges of the vertices in their order. Each claim is proved by the laws it cites.
 -- Assumes nothing.
-use Rattle.std.specs.Prelude.{◌≡◌, Bool, List, map, ℕ, ◌+◌, ◌-◌, ◌≤◌, ◌<◌, length}
+use Rattle.std.specs.Prelude.{◌≡◌, Bool, List, map, ℕ, ◌+◌, ◌-◌, ◌≤◌, length}
 use Rattle.std.proofs.Common.{sym, ap, ◌∙◌, add-zero}
 use Rattle.std.proofs.lemmas.List.{length-map}
-use Rattle.closed.specs.Lists.{All, upto, sum3}
+use Rattle.closed.specs.Lists.{All, sum3}
 use Rattle.closed.specs.Faces.{Face, Balanced, Apart, turn, map_face}
 use Rattle.closed.specs.Numbering.{index_of, used, edge_of, mesh}
-use Rattle.closed.specs.Table.{Table, flip, low_x, high_x, low_y, high_y, low_z, high_z}
+use Rattle.closed.specs.Table.{Table, flip}
 use Rattle.closed.specs.Rows.{triangles, emit, emitted}
-use Rattle.closed.specs.Grid.{corner_below, cell_case, cell_edge, cell_faces, grid_faces, on_grid, Crossed, crossed_count, Outer}
+use Rattle.closed.specs.Grid.{cell_case, cell_edge, cell_faces, grid_faces, Outer}
 use Rattle.closed.proofs.Laws.Sums.{sum3_cong}
 use Rattle.closed.proofs.Laws.Counting.{length_cells3}
 use Rattle.closed.proofs.Laws.Turning.{balanced_turn, all_apart_turn}
 use Rattle.closed.proofs.Laws.Mesh.{mesh_balanced, mesh_apart, mesh_length, mesh_edges, mesh_first_use, edge_of_injective, edge_used, number_lt, edge_of_number}
 use Rattle.closed.proofs.Laws.Tested as tested
-use Rattle.closed.proofs.Laws.Cells.{side_x, side_y, side_z, low_x_is, high_x_is, low_y_is, high_y_is, low_z_is, high_z_is, grid_faces_apart, grid_faces_balanced}
+use Rattle.closed.proofs.Laws.Cells.{low_x_is, high_x_is, low_y_is, high_y_is, low_z_is, high_z_is, grid_faces_apart, grid_faces_balanced}
 use Rattle.closed.proofs.Laws.Crossings.{crossed_used, used_crossed}
 use Rattle.closed.proofs.Laws.Vertices.{vertices_count}
+use Rattle.closed.specs.Laws.Cells.{side_x, side_y, side_z}
 use Rattle.closed.specs.Laws.Claims.{SidesReversed, OneToOne, Sound}
 
 -- ---- the table

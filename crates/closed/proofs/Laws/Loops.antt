@@ -8,15 +8,11 @@ use native.Mathlib.Omega.{arith}
 use Rattle.closed.specs.Lists.{sum, sum3, cells, cells3}
 use Rattle.closed.proofs.Laws.Sums.{sum_zero, sum_one_more}
 use Rattle.closed.proofs.Laws.Counting.{cells_zero, cells_one_more}
-use Rattle.closed.specs.Laws.Loops.{sum_before3}
+use Rattle.closed.specs.Laws.Loops.{before3, sum_before3}
 
 -- ---- lists
 
 module _ {A : Type 0} where
-  unfoldable pub before3 : ℕ → ℕ → (ℕ → ℕ → ℕ → List A) → ℕ → ℕ → ℕ → List A
-  before3 n p f i j k =
-      cells i (λ a. cells n (λ b. cells p (λ c. f a b c))) ++ cells j (λ b. cells p (λ c. f i b c)) ++ cells k (λ c. f i j c)
-
   pub before3_start : (n p : ℕ) (f : ℕ → ℕ → ℕ → List A) → before3 n p f 0 0 0 ≡ []
   unfolding before3 cells
   before3_start n p f = refl

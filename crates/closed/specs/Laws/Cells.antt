@@ -1,20 +1,28 @@
--- The cells of a grid meet what the theorem of the closed mesh asks (Closed): each cell's faces balance but for its sides, which is the table's rule
--- carried from the cube's edges to the grid's; neighbours' sides yield opposite pairs, for they are the same side; and sides of outer nodes, all alike,
--- yield none. Assumes nothing.
-use Rattle.std.specs.Prelude.{◌≡◌, refl, ◌⊎◌, Bool, true, false, ℕ, ◌+◌, ◌-◌, ◌≤◌, ◌<◌}
-use Rattle.std.proofs.Common.{sym, ap, ◌∙◌, inl, inr, ⊎_elim, mul-le-mul_right, add-zero, arith}
-use Rattle.std.proofs.Math.Path.{subst}
-use mathlib.Core.List.{List, [], ◌∷◌, ◌++◌, map, map-append}
-use Rattle.closed.specs.Lists.{count, member, In, All}
-use Rattle.closed.specs.Faces.{Face, face, runs, Balanced, Apart, map_face, corners}
-use Rattle.closed.specs.Numbering.{Injective}
-use Rattle.closed.specs.Table.{Arc, arc, goes, flip, map_arc, arcs, cube_edges, side, low_x, high_x, low_y, high_y, low_z, high_z, sides, cube_sides}
-use Rattle.closed.specs.Rows.{emitted}
-use Rattle.closed.specs.Grid.{node, edge, corner_below, cell_case, cell_edge, cell_faces, grid_faces, on_grid, Outer}
-use Rattle.closed.specs.Laws.Arcs.{ends, BalancedArcs}
-use Rattle.closed.specs.Laws.Closed.{PerCell, Matched}
+-- Words of the laws on a grid's cells (proofs/Laws/Cells): numbers that grow, and the sides of the cells as arcs. Definitions only; assumes nothing.
+use Rattle.std.specs.Prelude.{Bool, ℕ, ◌+◌, ◌<◌}
+use mathlib.Core.List.{List, [], ◌∷◌}
+use Rattle.closed.specs.Table.{Arc, side}
+use Rattle.closed.specs.Grid.{node, edge}
 
 abbrev pub Growing : List ℕ → Type 0
 Growing [] = Unit {0}
 Growing (x ∷ []) = Unit {0}
 Growing (x ∷ y ∷ l) = (x < y) × Growing (y ∷ l)
+
+-- ---- the sides of the grid's cells: at x, beside the cells j k; at y, beside i k; at z, beside i j
+
+module _ (ny nz : ℕ) (below : ℕ → ℕ → ℕ → Bool) where
+  unfoldable pub side_x : ℕ → ℕ → ℕ → List Arc
+  side_x x j k =
+      side (below x (j + 0) (k + 0)) (below x (j + 1) (k + 0)) (below x (j + 1) (k + 1)) (below x (j + 0) (k + 1))
+      (edge (node ny nz x (j + 0) (k + 0)) 1) (edge (node ny nz x (j + 1) (k + 0)) 2) (edge (node ny nz x (j + 0) (k + 1)) 1) (edge (node ny nz x (j + 0) (k + 0)) 2)
+
+  unfoldable pub side_y : ℕ → ℕ → ℕ → List Arc
+  side_y i y k =
+      side (below (i + 0) y (k + 0)) (below (i + 0) y (k + 1)) (below (i + 1) y (k + 1)) (below (i + 1) y (k + 0))
+      (edge (node ny nz (i + 0) y (k + 0)) 2) (edge (node ny nz (i + 0) y (k + 1)) 0) (edge (node ny nz (i + 1) y (k + 0)) 2) (edge (node ny nz (i + 0) y (k + 0)) 0)
+
+  unfoldable pub side_z : ℕ → ℕ → ℕ → List Arc
+  side_z i j z =
+      side (below (i + 0) (j + 0) z) (below (i + 1) (j + 0) z) (below (i + 1) (j + 1) z) (below (i + 0) (j + 1) z)
+      (edge (node ny nz (i + 0) (j + 0) z) 0) (edge (node ny nz (i + 1) (j + 0) z) 1) (edge (node ny nz (i + 0) (j + 1) z) 0) (edge (node ny nz (i + 0) (j + 0) z) 1)

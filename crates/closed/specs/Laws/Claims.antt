@@ -1,16 +1,14 @@
--- What is claimed of the mesh that extraction yields (document 01, "Extraction", and demand 3 of the mission). To read it, read the definitions: Lists, Faces,
--- Numbering, Table, Rows, Grid. `grid_faces nx ny nz below` are the faces over edge numbers of a grid whose node i j k is below the level where `below i j k`
--- says so, `mesh` the same faces over vertex numbers, `used` the edges of the vertices in their order. Each claim is proved by the laws it cites.
--- Assumes nothing.
-use Rattle.std.specs.Prelude.{◌≡◌, Bool, List, map, ℕ, ◌+◌, ◌-◌, ◌≤◌, ◌<◌, length}
-use Rattle.std.proofs.Common.{sym, ap, ◌∙◌, add-zero}
-use Rattle.std.proofs.lemmas.List.{length-map}
+-- What is claimed of the mesh that extraction yields (document 01, "Extraction", and demand 3 of the mission); proofs/Laws/Claims proves it. To read it, read
+-- the definitions: Lists, Faces, Numbering, Table, Rows, Grid. `grid_faces nx ny nz below` are the faces over edge numbers of a grid whose node i j k is below
+-- the level where `below i j k` says so, `mesh` the same faces over vertex numbers, `used` the edges of the vertices in their order. Definitions only; assumes
+-- nothing.
+use Rattle.std.specs.Prelude.{◌≡◌, Bool, map, ℕ, ◌+◌, ◌-◌, ◌<◌, length}
 use Rattle.closed.specs.Lists.{All, upto, sum3}
-use Rattle.closed.specs.Faces.{Face, Balanced, Apart, turn, map_face}
-use Rattle.closed.specs.Numbering.{index_of, used, edge_of, mesh}
-use Rattle.closed.specs.Table.{Table, flip, low_x, high_x, low_y, high_y, low_z, high_z}
-use Rattle.closed.specs.Rows.{triangles, emit, emitted}
-use Rattle.closed.specs.Grid.{corner_below, cell_case, cell_edge, cell_faces, grid_faces, on_grid, Crossed, crossed_count, Outer}
+use Rattle.closed.specs.Faces.{Apart, map_face}
+use Rattle.closed.specs.Numbering.{used, edge_of, mesh}
+use Rattle.closed.specs.Table.{flip, low_x, high_x, low_y, high_y, low_z, high_z}
+use Rattle.closed.specs.Rows.{triangles}
+use Rattle.closed.specs.Grid.{corner_below, cell_case, grid_faces, on_grid, Crossed, crossed_count}
 
 -- What a side yields is opposite to what the neighbour's side yields, over the grid's edges, in any grid.
 pub record SidesReversed (ny nz : ℕ) (below : ℕ → ℕ → ℕ → Bool) (i j k : ℕ) : Type 0 where

@@ -1,12 +1,8 @@
--- The theorem of the closed mesh: where each cell's directed pairs balance but for what its six sides yield, where two neighbours' sides yield
--- opposite pairs, and where the outermost sides yield none, the directed pairs of the whole grid balance. The sum over all cells shifts by one cell along
--- each axis, so that the higher sides cancel the lower ones. Cells are numbered 0 .. nx - 2, 0 .. ny - 2, 0 .. nz - 2. Assumes nothing.
-use Rattle.std.specs.Prelude.{◌≡◌, List, ℕ, ◌+◌, ◌-◌, ◌<◌}
-use Rattle.std.proofs.Common.{sym, ◌∙◌}
-use Rattle.std.proofs.Math.Path.{ap}
-use native.Mathlib.Omega.{arith}
-use Rattle.closed.specs.Lists.{count, sum3, cells3}
-use Rattle.closed.specs.Faces.{Face, runs, Balanced}
+-- What the theorem of the closed mesh (proofs/Laws/Closed) asks of the cells: each cell's directed pairs balance but for what its six sides yield, two
+-- neighbours' sides yield opposite pairs, and the outermost sides yield none. Cells are numbered 0 .. nx - 2, 0 .. ny - 2, 0 .. nz - 2. Definitions only;
+-- assumes nothing.
+use Rattle.std.specs.Prelude.{◌≡◌, ℕ, ◌+◌, ◌-◌, ◌<◌}
+use Rattle.closed.specs.Lists.{sum3}
 
 -- How many times the cell i j k yields the directed pair of edge ids from a to b.
 abbrev pub PerCell : Type 0

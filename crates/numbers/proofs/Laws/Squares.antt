@@ -2,7 +2,6 @@
 use Rattle.std.specs.Prelude.{◌≡◌, ℕ, ◌+◌, ◌*◌, ◌<◌, ◌≤◌}
 use Rattle.std.proofs.Common.{ap, ◌∙◌, le_of_lt, lt_of_le_of_lt, lt_of_not-le, not-le_of_lt, mul_comm, mul-add, add-mul, mul-le-mul, mul-le-mul_left, mul-lt-mul_of_pos_right, arith}
 use Rattle.std.proofs.Math.Nat.{mul-mul-mul_comm}
-use Rattle.numbers.specs.Laws.Squares.{IsRoot}
 
 -- (a + b) ^ 2
 pub square_sum : (a b : ℕ) → (a + b) * (a + b) ≡ a * a + 2 * (a * b) + b * b

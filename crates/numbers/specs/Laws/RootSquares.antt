@@ -1,15 +1,8 @@
--- The roots of sums of squares stand in the squares' order, or are one value: `roots_agree`. So a search may compare squares and take roots at its end.
--- By `rooted_mono`, and equal roots are one value since the format holds them. Assumes nothing.
-use Rattle.std.specs.Prelude.{◌≡◌, ℕ, zero, suc, Bool, true, false, T, ◌⊎◌, Float}
-use Rattle.std.proofs.Math.Path.{refl}
-use Rattle.std.proofs.Common.{◌∙◌, inl, inr, true≢false}
-use Rattle.std.specs.Float.{nan, inf, fin, Format}
-use Rattle.std.specs.Float.Ieee.{lt, eq, fits, is_nan}
-use Rattle.std.specs.Float.Ieee.Bits.{is_true}
-use Rattle.std.specs.Float.Ieee.Exact.{HasValue}
-use Rattle.std.specs.Float.Ieee.Fits.{nan-fits, inf-fits}
-use Rattle.numbers.specs.Arithmetic.{rooted}
-use Rattle.numbers.specs.Laws.SumOfSquares.{Square, none, far, some}
+-- A sum of squares that a format holds, which the laws on the order of its roots speak of (proofs/Laws/RootSquares). Definitions only; assumes nothing.
+use Rattle.std.specs.Prelude.{T, Float}
+use Rattle.std.specs.Float.{Format}
+use Rattle.std.specs.Float.Ieee.{fits}
+use Rattle.numbers.specs.Laws.SumOfSquares.{Square}
 
 -- a sum of squares that the format holds
 pub record HeldSquare (f : Format) (x : Float) : Type 0 where

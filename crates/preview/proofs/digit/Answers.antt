@@ -1,5 +1,5 @@
 -- Below ten a digit's character is 48 and the digit, and from ten on 55 and the digit. Assumes nothing.
-use Rattle.std.proofs.Common.{Bool, ℕ, ◌+◌, cond, sym, ap, ◌∙◌, arith}
+use Rattle.std.proofs.Common.{Bool, ◌+◌, cond, sym, ap, ◌∙◌, arith}
 use borrow.Author.Tests.{lt-ltb, le-ltb}
 use Rattle.preview.proofs.Digits.{digit_is}
 use Rattle.preview.proofs.digit.Goals as goal
