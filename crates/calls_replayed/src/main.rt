@@ -7,7 +7,7 @@
 mod tell;
 mod words;
 
-ghost use Rattle.std.specs.Prelude.{◌<◌, ◌≤◌, length, IfOk};
+ghost use Rattle.std.specs.Prelude.{◌≡◌, ◌<◌, ◌≤◌, length, IfOk, OnErr};
 
 use answers::Answer;
 use replay::read_decimal;
@@ -346,7 +346,8 @@ fn take_points(
     points: &mut [f32],
 ) -> io::Result<usize>
     requires { at ≤ length text.now }
-    ensures { IfOk result (λ next. (at ≤ next) × (next ≤ length text.now)) }
+    ensures next { IfOk result (λ next. (at ≤ next) × (next ≤ length text.now)) }
+    ensures failed { OnErr result (length points.new ≡ length points.old) }
 {
     let count = read_decimal(text, at);
     let n = at_most(count.value as usize, points.len());

@@ -6,7 +6,7 @@
 
 mod words;
 
-ghost use Rattle.std.specs.Prelude.{◌≡◌, ◌*◌, ◌<◌, ◌≤◌, length, IfOk};
+ghost use Rattle.std.specs.Prelude.{◌≡◌, ◌*◌, ◌<◌, ◌≤◌, length, IfOk, OnErr};
 ghost use Rattle.grid.specs.Grid.{Counts};
 ghost use Rattle.cells.specs.Extraction.{count_x, count_y, count_z};
 ghost use Rattle.numbering.specs.Words.{Numberable, Counted};
@@ -127,7 +127,8 @@ fn compare_mesh(
     grid: u64,
 ) -> io::Result<Compared>
     requires { (at ≤ length text.now) × Writable values.now table.now lattice iso vertices.old faces.old }
-    ensures { IfOk result (λ seen. (at ≤ seen.next) × (seen.next ≤ length text.now) × (seen.differ ≤ 1)) }
+    ensures seen { IfOk result (λ seen. (at ≤ seen.next) × (seen.next ≤ length text.now) × (seen.differ ≤ 1)) }
+    ensures failed { OnErr result ((length vertices.new ≡ length vertices.old) × (length faces.new ≡ length faces.old)) }
 {
     extract::write_mesh(values, lattice, iso, table, vertices, faces);
     let points = compare_vertices(rt, text, at, vertices, grid)?;
@@ -210,7 +211,8 @@ fn replay_numbering(
     grid: u64,
 ) -> io::Result<Compared>
     requires { (at ≤ length text.now) × Numberable values.old table.old lattice }
-    ensures { IfOk result (λ seen. (at ≤ seen.next) × (seen.next ≤ length text.now) × (seen.differ ≤ 1)) }
+    ensures seen { IfOk result (λ seen. (at ≤ seen.next) × (seen.next ≤ length text.now) × (seen.differ ≤ 1)) }
+    ensures failed { OnErr result ((length values.new ≡ length values.old) × (length table.new ≡ length table.old)) }
 {
     let mesh = read_values(text, at, values);
     let totals = extract::number_edges(values, lattice, iso, table);

@@ -1,14 +1,15 @@
 // Standard input, read into a lent buffer: what the programs that read a sheet or a list begin with.
 #![tactic(auto)]
 
-ghost use Rattle.std.specs.Prelude.{◌≤◌, length, IfOk};
+ghost use Rattle.std.specs.Prelude.{◌≡◌, ◌≤◌, length, IfOk, OnErr};
 
 use std::io;
 use std::io::Read;
 
-// Reads until the buffer is full or the input ends, and says how many bytes came. Which bytes come, no contract can say.
+// Reads until the buffer is full or the input ends, and says how many bytes came. Which bytes come, no contract can say. An error leaves what came before it.
 pub fn read_full(rt: &impl Input, buf: &mut [u8]) -> io::Result<usize>
-    ensures { IfOk result (λ n. n ≤ length buf.new) }
+    ensures count { IfOk result (λ n. n ≤ length buf.new) }
+    ensures failed { OnErr result (length buf.new ≡ length buf.old) }
 {
     let mut reader = rt.reader();
     let mut done = 0;
