@@ -2,7 +2,7 @@
 //! cannot show another table. Which edge joins which corners is written down again here; `cut` would not find the library's mesh
 //! if it were wrong.
 
-/// The source of the crate `cubes`, in which each entry stands on a line of its own.
+/// The source of the crate `cubes`: entries between commas, with comments behind them.
 const SOURCE: &str = include_str!("../../../crates/cubes/src/table.rt");
 
 /// Where corner c lies from corner 0.
@@ -22,8 +22,9 @@ impl Table {
     pub fn of_the_program() -> Table {
         let body = SOURCE.split("= [").nth(1).expect("the table begins");
         let body = body.split("];").next().expect("the table ends");
-        let entry = |line: &str| line.split(',').next().and_then(|word| word.trim().parse::<i8>().ok());
-        let entries: Vec<i8> = body.lines().filter_map(entry).collect();
+        let code = body.lines().filter_map(|line| line.split("//").next());
+        let entries: Vec<i8> =
+            code.flat_map(|line| line.split(',')).filter_map(|word| word.trim().parse().ok()).collect();
         assert_eq!(entries.len(), 4096, "256 rows of sixteen");
         Table(entries.chunks_exact(16).map(|row| row.try_into().expect("sixteen")).collect())
     }
