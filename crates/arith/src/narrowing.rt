@@ -7,9 +7,9 @@ ghost use Rattle.arith.specs.Words.{Nearest32};
 
 // n / 2^shift, rounded to the nearest whole number, a tie to the even one.
 fn rounded(n: u64, shift: u64) -> u64
-    requires fact_1 { n < 2 ^ 63 }
-    requires fact_2 { 1 ≤ shift }
-    requires fact_3 { shift ≤ 53 }
+    requires width { n < 2 ^ 63 }
+    requires least { 1 ≤ shift }
+    requires most { shift ≤ 53 }
     ensures { result ≡ closest n (2 ^ shift) }
 {
     (n + ((1u64 << (shift - 1)) - 1) + (n >> shift) % 2) >> shift
@@ -18,9 +18,9 @@ fn rounded(n: u64, shift: u64) -> u64
 // digits / 2^lift, rounded so. The digits are normalised to 53 by counting their leading zeros, which
 // says whether any of them reaches half a unit, and how far to shift.
 fn scaled(digits: u64, lift: u64) -> u64
-    requires fact_1 { digits < 2 ^ 53 }
-    requires fact_2 { 1 ≤ lift }
-    requires fact_3 { lift ≤ 925 }
+    requires width { digits < 2 ^ 53 }
+    requires least { 1 ≤ lift }
+    requires most { lift ≤ 925 }
     ensures { result ≡ closest digits (2 ^ lift) }
 {
     let z = u64::leading_zeros(digits) as u64 - 11;
@@ -49,8 +49,8 @@ fn small(m: u64) -> u64
 
 // The f32 pattern nearest to a magnitude outside the range of the normal f32 values.
 fn outside(m: u64) -> u64
-    requires fact_1 { m ≤ 2047 * 2 ^ 52 }
-    requires fact_2 { (897 * 2 ^ 52 ≤ m → 1151 * 2 ^ 52 ≤ m) }
+    requires within { m ≤ 2047 * 2 ^ 52 }
+    requires beyond { (897 * 2 ^ 52 ≤ m → 1151 * 2 ^ 52 ≤ m) }
     ensures { Nearest32 m result }
 {
     if m < 0x3810_0000_0000_0000 {

@@ -3,4 +3,4 @@ use Rattle.numbers.proofs.Laws.ClosestAdd.{closest_shift}
 use Rattle.arith.proofs.narrowing.rounded.Goals as goal
 
 pub returns : goal.returns
-returns c = closest_shift c.args.n c.args.shift c.requires.fact_2 c.requires.fact_3
+returns c = closest_shift c.args.n c.args.shift c.requires.least c.requires.most
