@@ -1,4 +1,4 @@
--- Laws of these definitions: what follows from them, for proofs here and above. Nothing here must be believed.
+-- Words of the laws on these definitions: the records and functions that they speak of. The laws are in proofs/Laws. Nothing here must be believed.
 pub mod Claims
 pub mod Arcs
 pub mod Cells

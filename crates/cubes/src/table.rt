@@ -1,4 +1,4 @@
-// TRIANGLE_TABLE of marching_cubes.rs: 256 rows of sixteen signed entries, laid out flat, since nested the toolchain does not finish.
+// TRIANGLE_TABLE of marching_cubes.rs: 256 rows of sixteen signed entries, laid out flat, since nested the check of an older toolchain did not finish.
 ghost use Rattle.std.specs.Prelude.{◌≡◌};
 ghost use Rattle.closed.specs.Rows.{flat_table};
 
