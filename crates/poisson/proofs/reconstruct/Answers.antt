@@ -1,6 +1,6 @@
 -- The stages in the order of the definition: each is given what it asks by those before. Once V and F are counted they are the definition's, and few
--- (`known`); once the checks of the mesh pass there is room for it (`room`), and it stands at the front of the two slices. The verdict in its
--- groups decides what is answered (Results). Assumes nothing.
+-- (`known`); once the checks of the mesh pass there is room for it (`room`), and it stands at the front of the two slices. The verdict in its groups decides
+-- what is answered (Results). Assumes nothing.
 use Rattle.std.proofs.Common.{List, ℕ, ◌≡◌, ◌*◌, ◌≤◌, sym, ap, ◌∙◌, subst, length, Float, arith}
 use lib.ListN.{take, drop}
 use lib.Seq.{length-take-le}
@@ -21,7 +21,7 @@ use Rattle.answers.proofs.Verdicts.{refuses}
 use Rattle.meshes.specs.declared.MeshSize.{MeshSize}
 use Rattle.numbering.specs.Words.{Counted, edge_table}
 use Rattle.scan.specs.Reconstruction.{lattice_for, field_for, level_for, vertex_total, face_total}
-use Rattle.scan.specs.Words.{GridOver}
+use Rattle.scan.specs.Words.{GridOver, Solved}
 use Rattle.scan.proofs.PutTogether.{nodes_cubed, lattice_size, grid_is, counted_is}
 use Rattle.poisson.proofs.Results.{few_totals, mesh_refused, mesh_room, mesh_shown}
 use Rattle.poisson.proofs.reconstruct.Goals as goal
@@ -34,13 +34,13 @@ record Known (ps : List Point) (st : Settings) (counts : MeshSize) (table : List
   few_faces : counts.faces ≤ 83886080
   numbers : table ≡ edge_table (field_for ps st) (lattice_for ps st) (level_for ps st)
 
-known : (ps : List Point) (st : Settings) {b : Bounds} {g : Grid} {x : List Float} {l : Lattice} {level : Float} {table : List ℕ} {counts : MeshSize}
-    → b ≡ bounds_of ps → GridOver b st g → x ≡ field_for ps st → l ≡ lattice_of g → level ≡ level_for ps st → Counted x table l level counts
-    → Known ps st counts table
+known : {ps : List Point} {st : Settings} {b : Bounds} {g : Grid} {l : Lattice} {level : Float} {x s1 s2 s3 s4 s5 s6 distances distances' : List Float}
+    {table : List ℕ} {counts : MeshSize} → b ≡ bounds_of ps → GridOver b st g → Solved ps st level x s1 s2 s3 s4 s5 s6 distances distances'
+    → l ≡ lattice_of g → Counted x table l level counts → Known ps st counts table
 unfolding vertex_total face_total
-known ps st box over field block top counted =
+known {ps} {st} box over solved block counted =
     let grid = grid_is ps st box over in
-    let done = counted_is ps st grid field block top counted in
+    let done = counted_is ps st grid solved.field block solved.level_is counted in
     let most = few_totals ps st (subst (λ (h : Grid). Sides h.nodes) grid over.sides) in
     record {
       vertices = done.vertices;
@@ -51,18 +51,16 @@ known ps st box over field block top counted =
     }
 
 -- once the checks of the mesh pass the two slices hold the untrimmed mesh
-room : (ps : List Point) (st : Settings) (lent : Lengths) (counts : MeshSize) (vs : List Float) (fs : List ℕ) {table : List ℕ} {v : Verdict}
+room : {ps : List Point} {st : Settings} {counts : MeshSize} {table : List ℕ} (lent : Lengths) (vs : List Float) (fs : List ℕ) {v : Verdict}
     → Known ps st counts table → v ≡ room_verdict counts.vertices counts.faces lent then mesh_verdict counts.faces → v ≡ Pass
     → lent.vertices ≡ length vs → lent.faces ≡ length fs
     → (3 * counts.vertices ≤ length vs) × (3 * counts.faces ≤ length fs)
-room ps st lent counts vs fs k is passed long many =
-    let fit = mesh_room ps st lent counts is k.vertices k.faces passed in
-    (omega (arith, fit.0, long), omega (arith, fit.1, many))
+room {ps} {st} {counts} lent vs fs k is passed long many =
+    let fit = mesh_room ps st lent counts is k.vertices k.faces passed in (omega (arith, fit.0, long), omega (arith, fit.1, many))
 
 pub number_edges-counts-requires : goal.number_edges-counts-requires
 number_edges-counts-requires c =
-    let g = c.make_grid-g.result in
-    let size = lattice_size g c.lattice.ensures.0 ∙ nodes_cubed c.make_grid-g.ensures in
+    let size = lattice_size c.make_grid-g.result c.lattice.ensures.0 ∙ nodes_cubed c.make_grid-g.ensures in
     record {
       counts = c.lattice.ensures.1;
       nodes = c.field_and_level-level.auto.s0 ∙ c.requires.lent.size0 ∙ sym size;
@@ -71,100 +69,56 @@ number_edges-counts-requires c =
 
 pub check_mesh-verdict-requires : goal.check_mesh-verdict-requires
 check_mesh-verdict-requires c =
-    let ps = usables c.args.points.now in
-    let st = c.args.settings in
-    let k = known ps st c.of-bounds.ensures c.make_grid-g.ensures c.field_and_level-level.ensures.field c.lattice.ensures.0
-    c.field_and_level-level.ensures.level_is c.number_edges-counts.ensures in
+    let k = known c.of-bounds.ensures c.make_grid-g.ensures c.field_and_level-level.ensures c.lattice.ensures.0 c.number_edges-counts.ensures in
     (omega (arith, k.few_vertices), omega (arith, k.few_faces))
 
 pub returns-in_default : goal.returns-in_default
 returns-in_default c =
-    let ps = usables c.args.points.now in
-    let st = c.args.settings in
-    let k = known ps st c.of-bounds.ensures c.make_grid-g.ensures c.field_and_level-level.ensures.field c.lattice.ensures.0
-    c.field_and_level-level.ensures.level_is c.number_edges-counts.ensures in
-    let counts = c.number_edges-counts.result in
-    mesh_refused ps st c.args.lengths counts c.check_mesh-verdict.ensures k.vertices k.faces _ _ _
+    let k = known c.of-bounds.ensures c.make_grid-g.ensures c.field_and_level-level.ensures c.lattice.ensures.0 c.number_edges-counts.ensures in
+    mesh_refused _ c.args.settings c.args.lengths _ c.check_mesh-verdict.ensures k.vertices k.faces _ _ _
     (refuses c.check_mesh-verdict.result c.in_default.not-Pass) c.refused.ensures
 
 pub overflow_mul-v : goal.overflow_mul-v
 overflow_mul-v c =
-    let ps = usables c.args.points.now in
-    let st = c.args.settings in
-    let k = known ps st c.of-bounds.ensures c.make_grid-g.ensures c.field_and_level-level.ensures.field c.lattice.ensures.0
-    c.field_and_level-level.ensures.level_is c.number_edges-counts.ensures in
-    omega (arith, k.few_vertices)
+    omega (arith, (known c.of-bounds.ensures c.make_grid-g.ensures c.field_and_level-level.ensures c.lattice.ensures.0 c.number_edges-counts.ensures).few_vertices)
 
 pub overflow_mul-w : goal.overflow_mul-w
 overflow_mul-w c =
-    let ps = usables c.args.points.now in
-    let st = c.args.settings in
-    let k = known ps st c.of-bounds.ensures c.make_grid-g.ensures c.field_and_level-level.ensures.field c.lattice.ensures.0
-    c.field_and_level-level.ensures.level_is c.number_edges-counts.ensures in
-    omega (arith, k.few_faces)
+    omega (arith, (known c.of-bounds.ensures c.make_grid-g.ensures c.field_and_level-level.ensures c.lattice.ensures.0 c.number_edges-counts.ensures).few_faces)
 
 pub slice_bounds-make_mesh-end : goal.slice_bounds-make_mesh-end
 slice_bounds-make_mesh-end c =
-    let ps = usables c.args.points.now in
-    let st = c.args.settings in
-    let k = known ps st c.of-bounds.ensures c.make_grid-g.ensures c.field_and_level-level.ensures.field c.lattice.ensures.0
-    c.field_and_level-level.ensures.level_is c.number_edges-counts.ensures in
-    let counts = c.number_edges-counts.result in
-    let fit = room ps st c.args.lengths counts c.args.vertices.now c.args.faces.now k c.check_mesh-verdict.ensures c.in-Pass.is
-    c.requires.edges_len.1 c.requires.edges_len.2 in
-    fit.0
+    let k = known c.of-bounds.ensures c.make_grid-g.ensures c.field_and_level-level.ensures c.lattice.ensures.0 c.number_edges-counts.ensures in
+    (room c.args.lengths _ _ k c.check_mesh-verdict.ensures c.in-Pass.is c.requires.edges_len.1 c.requires.edges_len.2).0
 
 pub slice_bounds-make_mesh-end-2 : goal.slice_bounds-make_mesh-end-2
 slice_bounds-make_mesh-end-2 c =
-    let ps = usables c.args.points.now in
-    let st = c.args.settings in
-    let k = known ps st c.of-bounds.ensures c.make_grid-g.ensures c.field_and_level-level.ensures.field c.lattice.ensures.0
-    c.field_and_level-level.ensures.level_is c.number_edges-counts.ensures in
-    let counts = c.number_edges-counts.result in
-    let fit = room ps st c.args.lengths counts c.args.vertices.now c.args.faces.now k c.check_mesh-verdict.ensures c.in-Pass.is
-    c.requires.edges_len.1 c.requires.edges_len.2 in
-    sym (length-take-le (3 * counts.vertices) c.args.vertices.now fit.0)
+    let k = known c.of-bounds.ensures c.make_grid-g.ensures c.field_and_level-level.ensures c.lattice.ensures.0 c.number_edges-counts.ensures in
+    sym (length-take-le _ _ (room c.args.lengths _ _ k c.check_mesh-verdict.ensures c.in-Pass.is c.requires.edges_len.1 c.requires.edges_len.2).0)
 
 pub slice_bounds-make_mesh-end-3 : goal.slice_bounds-make_mesh-end-3
 slice_bounds-make_mesh-end-3 c =
-    let ps = usables c.args.points.now in
-    let st = c.args.settings in
-    let k = known ps st c.of-bounds.ensures c.make_grid-g.ensures c.field_and_level-level.ensures.field c.lattice.ensures.0
-    c.field_and_level-level.ensures.level_is c.number_edges-counts.ensures in
-    let counts = c.number_edges-counts.result in
-    let fit = room ps st c.args.lengths counts c.args.vertices.now c.args.faces.now k c.check_mesh-verdict.ensures c.in-Pass.is
-    c.requires.edges_len.1 c.requires.edges_len.2 in
-    fit.1
+    let k = known c.of-bounds.ensures c.make_grid-g.ensures c.field_and_level-level.ensures c.lattice.ensures.0 c.number_edges-counts.ensures in
+    (room c.args.lengths _ _ k c.check_mesh-verdict.ensures c.in-Pass.is c.requires.edges_len.1 c.requires.edges_len.2).1
 
 pub slice_bounds-make_mesh-end-4 : goal.slice_bounds-make_mesh-end-4
 slice_bounds-make_mesh-end-4 c =
-    let ps = usables c.args.points.now in
-    let st = c.args.settings in
-    let k = known ps st c.of-bounds.ensures c.make_grid-g.ensures c.field_and_level-level.ensures.field c.lattice.ensures.0
-    c.field_and_level-level.ensures.level_is c.number_edges-counts.ensures in
-    let counts = c.number_edges-counts.result in
-    let fit = room ps st c.args.lengths counts c.args.vertices.now c.args.faces.now k c.check_mesh-verdict.ensures c.in-Pass.is
-    c.requires.edges_len.1 c.requires.edges_len.2 in
-    sym (length-take-le (3 * counts.faces) c.args.faces.now fit.1)
+    let k = known c.of-bounds.ensures c.make_grid-g.ensures c.field_and_level-level.ensures c.lattice.ensures.0 c.number_edges-counts.ensures in
+    sym (length-take-le _ _ (room c.args.lengths _ _ k c.check_mesh-verdict.ensures c.in-Pass.is c.requires.edges_len.1 c.requires.edges_len.2).1)
 
 pub make_mesh-size-requires : goal.make_mesh-size-requires
 make_mesh-size-requires c =
-    let ps = usables c.args.points.now in
-    let st = c.args.settings in
-    let k = known ps st c.of-bounds.ensures c.make_grid-g.ensures c.field_and_level-level.ensures.field c.lattice.ensures.0
-    c.field_and_level-level.ensures.level_is c.number_edges-counts.ensures in
-    let counts = c.number_edges-counts.result in
-    let fit = room ps st c.args.lengths counts c.args.vertices.now c.args.faces.now k c.check_mesh-verdict.ensures c.in-Pass.is
-    c.requires.edges_len.1 c.requires.edges_len.2 in
+    let k = known c.of-bounds.ensures c.make_grid-g.ensures c.field_and_level-level.ensures c.lattice.ensures.0 c.number_edges-counts.ensures in
+    let fit = room c.args.lengths _ _ k c.check_mesh-verdict.ensures c.in-Pass.is c.requires.edges_len.1 c.requires.edges_len.2 in
     let over = c.make_grid-g.ensures in
     let field = c.field_and_level-level in
     record {
-      grid = grid_is ps st c.of-bounds.ensures over;
+      grid = grid_is (usables c.args.points.now) c.args.settings c.of-bounds.ensures over;
       sides = over.sides;
       depth = nodes_cubed over;
       level_is = field.ensures.level_is;
-      places = length-take-le (3 * counts.vertices) c.args.vertices.now fit.0 ∙ ap (λ (i : ℕ). 3 * i) k.vertices;
-      triples = length-take-le (3 * counts.faces) c.args.faces.now fit.1 ∙ ap (λ (i : ℕ). 3 * i) k.faces;
+      places = length-take-le _ _ fit.0 ∙ ap (λ (i : ℕ). 3 * i) k.vertices;
+      triples = length-take-le _ _ fit.1 ∙ ap (λ (i : ℕ). 3 * i) k.faces;
       field = field.ensures.field;
       size0 = field.auto.s0 ∙ c.requires.lent.size0;
       size1 = field.auto.s1 ∙ c.requires.lent.size1;
@@ -175,18 +129,14 @@ make_mesh-size-requires c =
 
 pub returns : goal.returns
 returns c =
-    let ps = usables c.args.points.now in
-    let st = c.args.settings in
-    let k = known ps st c.of-bounds.ensures c.make_grid-g.ensures c.field_and_level-level.ensures.field c.lattice.ensures.0
-    c.field_and_level-level.ensures.level_is c.number_edges-counts.ensures in
-    let counts = c.number_edges-counts.result in
+    let k = known c.of-bounds.ensures c.make_grid-g.ensures c.field_and_level-level.ensures c.lattice.ensures.0 c.number_edges-counts.ensures in
     let vs = c.args.vertices.now in
     let fs = c.args.faces.now in
-    let v = 3 * counts.vertices in
-    let w = 3 * counts.faces in
+    let v = 3 * c.number_edges-counts.result.vertices in
+    let w = 3 * c.number_edges-counts.result.faces in
     let made = c.make_mesh-size in
     let done = made.ensures in
-    mesh_shown ps st c.args.lengths counts c.check_mesh-verdict.ensures k.vertices k.faces
+    mesh_shown (usables c.args.points.now) c.args.settings c.args.lengths _ c.check_mesh-verdict.ensures k.vertices k.faces
     (length (take v vs)) (length (take w fs)) made.new.vertices made.new.faces made.result.vertices made.result.faces
     c.usable_count.result (drop v vs) (drop w fs)
     done.vertex_count done.face_count done.places done.numbers c.field_and_level-level.ensures.level_is
