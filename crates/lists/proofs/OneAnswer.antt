@@ -1,18 +1,16 @@
--- No second outcome fits: each public function, in the order of the sources. Assumes nothing.
+-- No second outcome fits: each public function, in the order of the sources, at any element type. Assumes nothing.
 use mathlib.Core.Path.{refl}
+use denote.RattleType.{RattleType}
+use denote.Param.Laws.{Laws, IsCopy}
 use Rattle.lists.specs.OneOutcome.{OneOutcome}
 use Rattle.lists.specs.Laws.OneAnswer.{same, ◌&◌}
 use Rattle.lists.specs.contracts as contract
 use Rattle.lists.proofs as fn
 
-pub clear_from_f32 : OneOutcome contract.clear_from_f32.ended fn.clear_from_f32.Reads.Post
-clear_from_f32 κs args o o' p q = refl & same p q & refl
+-- the element type, and what its bounds `Zero` and `Clone` bring: ghost members, then code
+module _ (T : RattleType) (laws : Laws T) (copies : IsCopy T) (zero : _) (zero_code : _) (clone : _) (clone_code : _) where
+  pub clear_from : OneOutcome (contract.clear_from.ended T zero zero_code clone clone_code) (fn.clear_from.Reads.Post T laws copies zero zero_code clone clone_code)
+  clear_from κs args o o' p q = refl & same p q & refl
 
-pub clear_f32 : OneOutcome contract.clear_f32.ended fn.clear_f32.Reads.Post
-clear_f32 κs args o o' p q = refl & same p q & refl
-
-pub clear_from_u32 : OneOutcome contract.clear_from_u32.ended fn.clear_from_u32.Reads.Post
-clear_from_u32 κs args o o' p q = refl & same p q & refl
-
-pub clear_u32 : OneOutcome contract.clear_u32.ended fn.clear_u32.Reads.Post
-clear_u32 κs args o o' p q = refl & same p q & refl
+  pub clear : OneOutcome (contract.clear.ended T zero zero_code clone clone_code) (fn.clear.Reads.Post T laws copies zero zero_code clone clone_code)
+  clear κs args o o' p q = refl & same p q & refl
