@@ -79,7 +79,7 @@ fn blur_across(
     ensures { out.new ≡ tabulate (length out.old)
         (λ k. blur_to v.now (across first.0 stride k) n place radius kernel.now (offset_count radius)) }
 {
-    lists::clear_f32(out);
+    lists::clear(out);
     let mut t = 0usize;
     while t < kernel.len() {
         add_row(out, v, first, stride, moved(place, t, radius, n), kernel[t]);
@@ -138,7 +138,7 @@ fn blur_along(out: &mut [f32], v: &[f32], kernel: &[f32], radius: usize)
     ensures { out.new ≡ tabulate (length out.old)
         (λ k. blur_to v.now (λ p. p) (length out.old) k radius kernel.now (offset_count radius)) }
 {
-    lists::clear_f32(out);
+    lists::clear(out);
     let mut t = 0usize;
     while t < kernel.len() {
         add_along(out, v, t, radius, kernel[t]);

@@ -40,15 +40,15 @@ pub fn clear_scratch(
           distances = distances.new;
         }) }
 {
-    lists::clear_f32(s0);
-    lists::clear_f32(s1);
-    lists::clear_f32(s2);
-    lists::clear_f32(s3);
-    lists::clear_f32(s4);
-    lists::clear_f32(s5);
-    lists::clear_f32(s6);
-    lists::clear_u32(edges);
-    lists::clear_f32(distances);
+    lists::clear(s0);
+    lists::clear(s1);
+    lists::clear(s2);
+    lists::clear(s3);
+    lists::clear(s4);
+    lists::clear(s5);
+    lists::clear(s6);
+    lists::clear(edges);
+    lists::clear(distances);
 }
 
 // Clears the vertex slice from element `v` on, the face slice from `w` on, and all scratch.
@@ -99,7 +99,7 @@ pub fn tidy(
           };
         }) }
 {
-    lists::clear_from_f32(vertices, v);
-    lists::clear_from_u32(faces, w);
+    lists::clear_from(vertices, v);
+    lists::clear_from(faces, w);
     clear_scratch(s0, s1, s2, s3, s4, s5, s6, edges, distances);
 }

@@ -63,7 +63,7 @@ fn any_row(b: &mut [f32], x: &[f32], y: &[f32], z: &[f32], first: Node, h: f32, 
         (row_at (length b.old) h x.now y.now z.now first.0 boundary) }
 {
     if boundary {
-        lists::clear_f32(b);
+        lists::clear(b);
     } else {
         inner_row(b, x, y, z, first, h);
     }

@@ -95,8 +95,8 @@ pub fn right_side(
     let weights = kernel.weights;
     let count = radius + radius + 1;
     right_side_by(points, g, &weights[0..count], radius, b, s, x, y, z);
-    lists::clear_f32(s);
-    lists::clear_f32(x);
-    lists::clear_f32(y);
-    lists::clear_f32(z);
+    lists::clear(s);
+    lists::clear(x);
+    lists::clear(y);
+    lists::clear(z);
 }

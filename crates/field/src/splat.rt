@@ -46,7 +46,7 @@ pub fn splat(g: Grid, points: &[f32], a: usize, v: &mut [f32])
     requires { Sides g.nodes × (length v.old ≡ all_nodes g) × (a < 3) }
     ensures { v.new ≡ splatted g (usables points.now) a }
 {
-    lists::clear_f32(v);
+    lists::clear(v);
     let all = Point::given(points);
     let mut i = 0usize;
     while i < all {

@@ -49,7 +49,7 @@ fn hand_over(values: &[f32], field: &mut [f32])
 {
     let n = values.len();
     copy_values(values, &mut field[..n]);
-    lists::clear_from_f32(field, n);
+    lists::clear_from(field, n);
 }
 
 // The stages up to the level, in scratch of exactly the stated lengths.
@@ -137,7 +137,7 @@ fn refuse_or_solve(
     };
     let verdict = check_field(points, settings, lengths, field.len());
     let Verdict::Pass = verdict else {
-        lists::clear_f32(field);
+        lists::clear(field);
         return Answer::refused(verdict);
     };
     let n = settings::nodes(settings.depth);

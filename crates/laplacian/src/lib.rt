@@ -42,7 +42,7 @@ fn apply_row(g: Grid, x: &[f32], y: &mut [f32], row: usize)
 {
     let n = g.nodes;
     if g.boundary_row(row) {
-        lists::clear_f32(y);
+        lists::clear(y);
     } else {
         inner_row(x, y, g.row_start(row), n * n);
     }
@@ -76,7 +76,7 @@ pub fn apply(g: Grid, x: &[f32], y: &mut [f32])
     let plane = n * n;
     let end = plane * n;
     let last = end - plane;
-    lists::clear_f32(&mut y[0..plane]);
+    lists::clear(&mut y[0..plane]);
     apply_between(g, x, &mut y[plane..last]);
-    lists::clear_f32(&mut y[last..end]);
+    lists::clear(&mut y[last..end]);
 }

@@ -73,10 +73,10 @@ fn clear_scratch(
     ensures { Zeros before.old b.old s.old r.old p.old ap.old before.new
         b.new s.new r.new p.new ap.new }
 {
-    lists::clear_f32(before);
-    lists::clear_f32(b);
-    lists::clear_f32(s);
-    lists::clear_f32(r);
-    lists::clear_f32(p);
-    lists::clear_f32(ap);
+    lists::clear(before);
+    lists::clear(b);
+    lists::clear(s);
+    lists::clear(r);
+    lists::clear(p);
+    lists::clear(ap);
 }

@@ -87,7 +87,7 @@ fn first_level(
     requires depth_in_bounds { nodes_at depth ≤ length x.old }
     ensures { take (nodes_at depth) x.new ≡ risen problem (usables points.now) depth 0 }
 {
-    lists::clear_f32(x);
+    lists::clear(x);
     level_front(problem, points, problem.grid(depth), x, b, s, r, p, ap);
 }
 

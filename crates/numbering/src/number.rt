@@ -245,6 +245,6 @@ pub fn number_edges(values: &[f32], lattice: Lattice, iso: f32, table: &mut [u32
 {
     let offsets = edge_offsets(lattice);
     let triangles = cubes::triangle_table();
-    lists::clear_u32(table);
+    lists::clear(table);
     number_planes(table, values, lattice, iso, &offsets, &triangles)
 }

@@ -136,6 +136,6 @@ pub fn spacing(points: &[f32], list: &mut [f32], extent: f64) -> f64
     ensures { (result ≡ spacing_of (usables points.now) extent) × (list.new ≡ zeros32 (length list.old)) }
 {
     let middle = median(points, list, stride(points));
-    lists::clear_f32(list);
+    lists::clear(list);
     arith::largest(arith::widen(middle), extent * 0.000001)
 }

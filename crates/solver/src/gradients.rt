@@ -149,7 +149,7 @@ pub fn conjugate_gradient(
         ap.new }
 {
     descend(g, b, x, r, p, ap, tolerance, cap);
-    lists::clear_f32(r);
-    lists::clear_f32(p);
-    lists::clear_f32(ap);
+    lists::clear(r);
+    lists::clear(p);
+    lists::clear(ap);
 }

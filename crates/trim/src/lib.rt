@@ -33,7 +33,7 @@ fn keep_near(
         faces.new table.new result }
 {
     let kept = keeping::keep_faces(points, distance * distance, vertices, faces);
-    lists::clear_u32(table);
+    lists::clear(table);
     let used = renumbering::number(faces, kept, table);
     MeshSize {
         vertices: used as usize,
@@ -61,8 +61,8 @@ fn trim_within(
     let used = size.vertices;
     let kept = size.faces;
     moving::move_vertices(table, vertices, a, b, c, used as u32);
-    lists::clear_from_f32(vertices, 3 * used);
-    lists::clear_from_u32(faces, 3 * kept);
+    lists::clear_from(vertices, 3 * used);
+    lists::clear_from(faces, 3 * kept);
     size
 }
 
@@ -114,9 +114,9 @@ pub fn trim(
     ensures c_after { c.new ≡ zeros32 (length c.old) }
 {
     let size = trim_as_chosen(trimming, points, vertices, faces, table, a, b, c);
-    lists::clear_u32(table);
-    lists::clear_f32(a);
-    lists::clear_f32(b);
-    lists::clear_f32(c);
+    lists::clear(table);
+    lists::clear(a);
+    lists::clear(b);
+    lists::clear(c);
     size
 }

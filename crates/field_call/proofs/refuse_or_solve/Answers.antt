@@ -20,7 +20,7 @@ room xs st lent n field is passed nodes = rooms xs st lent (field_ready xs st le
 pub returns-in_default : goal.returns-in_default
 returns-in_default c =
     field_refused _ c.args.settings _ c.args.field.now c.check_field-verdict.ensures _ _ (refuses c.check_field-verdict.result c.in_default.not-Pass)
-    c.refused.ensures c.clear_f32.ensures
+    c.refused.ensures c.clear.ensures
 
 pub nodes-n-requires : goal.nodes-n-requires
 nodes-n-requires c = (field_ready _ c.args.settings _ c.args.field.now c.check_field-verdict.ensures c.in-Pass.is).0.shallow

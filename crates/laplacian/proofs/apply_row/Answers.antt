@@ -10,7 +10,7 @@ inner_row-requires c =
     omega (arith, c.row_start.ensures, c.requires.sides.two, c.requires.row_bound, row_plane some, inner_row c.args.g.nodes c.requires.row_bound.0 (sym c.boundary_row.ensures ∙ c.if-boundary_row.false))
 
 pub returns-then-boundary_row : goal.returns-then-boundary_row
-returns-then-boundary_row c = c.clear_f32.ensures ∙ boundary_row_is c.args.g.nodes c.args.x.now c.args.row c.requires.row_bound.2 (sym c.boundary_row.ensures ∙ c.if-boundary_row.true)
+returns-then-boundary_row c = c.clear.ensures ∙ boundary_row_is c.args.g.nodes c.args.x.now c.args.row c.requires.row_bound.2 (sym c.boundary_row.ensures ∙ c.if-boundary_row.true)
 
 pub returns-else-boundary_row : goal.returns-else-boundary_row
 returns-else-boundary_row c = c.inner_row.ensures ∙ inner_row_is c.args.g.nodes c.args.x.now c.args.row c.requires.row_bound.2 c.row_start.ensures (sym c.boundary_row.ensures ∙ c.if-boundary_row.false)

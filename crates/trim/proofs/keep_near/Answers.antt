@@ -25,7 +25,7 @@ number-used-requires-clause-by_index c =
     let m = c.requires.meshed in
     let p = near (usables c.args.points.now) c.args.vertices.now (mul binary32 c.args.distance c.args.distance) in
     λ k h.
-    omega (arith, c.clear_u32.auto.numbers, c.requires.faces_len_bound, front_below m p kept.new.faces kept.result kept.auto.faces kept.ensures.value kept.ensures.faces_after k h)
+    omega (arith, c.clear.auto.values, c.requires.faces_len_bound, front_below m p kept.new.faces kept.result kept.auto.faces kept.ensures.value kept.ensures.faces_after k h)
 
 pub returns : goal.returns
 unfolding near_faces

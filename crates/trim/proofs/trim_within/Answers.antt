@@ -52,4 +52,4 @@ returns c =
     let move = c.move_vertices in
     trimmed_within ps vertices c.args.distance numbers m near.ensures near.auto.faces move.new.vertices _ _ move.auto.vertices
     (move.ensures _ near.ensures.slots (used_no_repeat _) (within_below ps vertices c.args.distance numbers m))
-    c.clear_from_f32.ensures c.clear_from_u32.ensures
+    c.clear_from.ensures c.clear_from-2.ensures

@@ -9,6 +9,6 @@ use Rattle.field.proofs.divergence.any_row.Goals as goal
 pub returns-then-boundary : goal.returns-then-boundary
 returns-then-boundary c =
     let n = length c.args.b.now in
-    c.clear_f32.ensures
+    c.clear.ensures
     ∙ all_zero n c.args.h c.args.x.now c.args.y.now c.args.z.now n c.args.first.0
     ∙ ap (λ (a : Bool). tabulate n (row_at n c.args.h c.args.x.now c.args.y.now c.args.z.now c.args.first.0 a)) (sym c.if-boundary.true)

@@ -6,7 +6,7 @@ use Rattle.levels.proofs.rising.first_level.Goals as goal
 
 pub level_front-requires-clause-g_in_bounds : goal.level_front-requires-clause-g_in_bounds
 level_front-requires-clause-g_in_bounds c =
-    omega (arith, c.clear_f32.auto.values, nodes_is c.args.problem c.args.depth c.grid.ensures.0, c.requires.depth_in_bounds)
+    omega (arith, c.clear.auto.values, nodes_is c.args.problem c.args.depth c.grid.ensures.0, c.requires.depth_in_bounds)
 
 pub returns : goal.returns
-returns c = first_is c.args.problem (usables c.args.points.now) c.args.depth c.level_front.new.x c.grid.ensures.0 c.requires.depth_in_bounds c.clear_f32.ensures c.level_front.ensures
+returns c = first_is c.args.problem (usables c.args.points.now) c.args.depth c.level_front.new.x c.grid.ensures.0 c.requires.depth_in_bounds c.clear.ensures c.level_front.ensures

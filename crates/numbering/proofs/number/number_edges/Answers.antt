@@ -10,4 +10,4 @@ pub returns : goal.returns
 returns c =
     let block = block_faces c.args.values.now (count_y c.args.lattice) (count_z c.args.lattice) c.args.iso (count_x c.args.lattice - 1) in
     counted_all c.args.values.now c.args.lattice c.args.iso c.requires.counts (length c.args.table.now) c.number_planes.new.table c.number_planes.result c.requires.edges
-    (subst (λ (t : List ℕ). Numbered t c.number_planes.new.table none c.number_planes.result block) c.clear_u32.ensures c.number_planes.ensures)
+    (subst (λ (t : List ℕ). Numbered t c.number_planes.new.table none c.number_planes.result block) c.clear.ensures c.number_planes.ensures)
