@@ -17,10 +17,8 @@ fn terms(u: f64) -> f64
     ensures { result ≡ series u 8 one64 }
 {
     let mut s = 1.0;
-    let mut m = 8u32;
-    while m > 0 {
+    for m in (1..9u32).rev() {
         s = 1.0 - (u * s) / (m as f64);
-        m -= 1;
     }
     s
 }
@@ -30,10 +28,8 @@ fn squares(x: f64) -> f64
     ensures { result ≡ squared 6 x }
 {
     let mut s = x;
-    let mut k = 6u32;
-    while k > 0 {
+    for _ in 0..6u32 {
         s = s * s;
-        k -= 1;
     }
     s
 }
