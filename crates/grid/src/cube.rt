@@ -72,13 +72,7 @@ impl Grid {
         ensures { result ≡ on_boundary self.nodes (get_or at 0 0) (get_or at 1 0) (get_or at 2 0) }
     {
         let n = self.nodes;
-        if at_end(n, at[0]) {
-            return true;
-        }
-        if at_end(n, at[1]) {
-            return true;
-        }
-        at_end(n, at[2])
+        at_end(n, at[0]) || at_end(n, at[1]) || at_end(n, at[2])
     }
 
     // Whether all nodes of row i·n+j are on the boundary.
@@ -87,10 +81,7 @@ impl Grid {
         ensures { result ≡ boundary_row self.nodes row }
     {
         let n = self.nodes;
-        if at_end(n, row / n) {
-            return true;
-        }
-        at_end(n, row % n)
+        at_end(n, row / n) || at_end(n, row % n)
     }
 
     // The place of a position: origin + count·step along each axis.

@@ -83,11 +83,9 @@ impl Grid {
     {
         let cell = self.cell(p);
         let mut sum = -0.0;
-        let mut c = 0usize;
-        while c < 8 {
+        for c in 0..8 {
             let place = self.corner(cell, c).place();
             sum = sum + cell.weight(c) * arith::widen(values[place]);
-            c += 1;
         }
         sum
     }

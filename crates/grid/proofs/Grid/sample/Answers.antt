@@ -15,7 +15,7 @@ reach g values {c = c} sides all inside few e = let below = corner_below c insid
 
 pub loop-c-init : goal.loop-c-init
 unfolding sum_to
-loop-c-init c = (refl, omega arith)
+loop-c-init c = refl
 
 pub offset_bounds-values-place : goal.offset_bounds-values-place
 offset_bounds-values-place c = omega (arith, reach c.args.self c.args.values.now c.requires.sides c.requires.values_len c.cell-cell.ensures.1 c.loop-c-test.true (c.place-place.ensures ∙ c.corner.ensures))
@@ -25,10 +25,10 @@ bounds-values-place c = omega (arith, reach c.args.self c.args.values.now c.requ
 
 pub loop-c-preserved : goal.loop-c-preserved
 unfolding sum_to
-loop-c-preserved c = (rw (c.widen.ensures, c.weight.ensures, c.place-place.ensures, c.corner.ensures, c.loop-c.invariant.0, add-one), omega arith)
+loop-c-preserved c = rw (c.widen.ensures, c.weight.ensures, c.place-place.ensures, c.corner.ensures, c.loop-c.invariant, add-one)
 
 pub returns : goal.returns
 unfolding sampled
 returns c =
     let all : c.loop-c.c ≡ 8 = omega arith in
-    rw (← c.cell-cell.ensures.0, ← all) c.loop-c.invariant.0
+    rw (← c.cell-cell.ensures.0, ← all) c.loop-c.invariant
