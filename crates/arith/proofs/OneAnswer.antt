@@ -1,7 +1,10 @@
 -- No second outcome fits: each public function, in the order of the sources. Assumes nothing.
-use Rattle.std.proofs.Common.{refl}
+use Rattle.std.proofs.Common.{◌≡◌, refl}
+use denote.RattleType.{RattleType}
+use denote.Param.Laws.{Laws, IsCopy}
 use Rattle.lists.specs.OneOutcome.{OneOutcome}
 use Rattle.lists.specs.Laws.OneAnswer.{same, ◌&◌}
+use Rattle.numbers.specs.declared.real.Real as Real
 use Rattle.arith.specs.contracts as contract
 use Rattle.arith.proofs as fn
 
@@ -31,12 +34,6 @@ pattern64 κs args o o' p q = same p q & refl
 
 -- ---- pick.rt
 
-pub clamp64 : OneOutcome contract.pick.clamp64.ended fn.pick.clamp64.Reads.Post
-clamp64 κs args o o' p q = same p q & refl
-
-pub clamp32 : OneOutcome contract.pick.clamp32.ended fn.pick.clamp32.Reads.Post
-clamp32 κs args o o' p q = same p q & refl
-
 pub sign : OneOutcome contract.pick.sign.ended fn.pick.sign.Reads.Post
 sign κs args o o' p q = same p q & refl
 
@@ -56,3 +53,10 @@ ceiling κs args o o' p q = same p q & refl
 
 pub to_whole : OneOutcome contract.steps.to_whole.ended fn.steps.to_whole.Reads.Post
 to_whole κs args o o' p q = same p q & refl
+
+-- ---- at any type with what its bounds bring, ghost members and code: `Real`, `PartialOrd`, `PartialEq` and `Clone`; and with the law that its number tells a value
+
+module _ (T : RattleType) (laws : Laws T) (copies : IsCopy T) (r : Real.Ghosts T.Denot) (r' : _) (o : _) (o' : _) (e : _) (e' : _) (c : _) (c' : _)
+    (told_by_value : (x y : T.Denot) → r.value x ≡ r.value y → x ≡ y) where
+  pub clamp : OneOutcome (contract.pick.clamp.ended T r r' o o' e e' c c') (fn.pick.clamp.Reads.Post T laws copies r r' o o' e e' c c')
+  clamp κs args a a' p q = told_by_value _ _ (same p q) & refl

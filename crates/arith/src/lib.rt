@@ -10,8 +10,8 @@ mod steps;
 
 pub use exponential::exp_neg;
 pub use narrowing::narrow;
-pub use numbers::{canonical32, canonical64, widen};
+pub use numbers::{Real, canonical, widen};
 pub use patterns::{float32, float64, pattern32, pattern64};
-pub use pick::{clamp32, clamp64, largest, least, sign};
-pub use roots::{root32, root64};
+pub use pick::{clamp, largest, least, sign};
+pub use roots::root;
 pub use steps::{ceiling, floor, to_whole};

@@ -2,9 +2,11 @@
 ghost use Rattle.std.specs.Prelude.{◌≡◌};
 ghost use Rattle.numbers.specs.Arithmetic.{clamped, signed, least, largest};
 
+use numbers::Real;
+
 // lo where x < lo, else hi where hi < x, else x: NaN stays NaN, and -0 stays -0.
-pub fn clamp64(x: f64, lo: f64, hi: f64) -> f64
-    ensures { result ≡ clamped x lo hi }
+pub fn clamp<T: Real>(x: T, lo: T, hi: T) -> T
+    ensures { T.value result ≡ clamped (T.value x) (T.value lo) (T.value hi) }
 {
     if x < lo {
         return lo;
@@ -12,20 +14,7 @@ pub fn clamp64(x: f64, lo: f64, hi: f64) -> f64
     if hi < x {
         return hi;
     }
-    numbers::canonical64(x)
-}
-
-// The same at f32.
-pub fn clamp32(v: f32, lo: f32, hi: f32) -> f32
-    ensures { result ≡ clamped v lo hi }
-{
-    if v < lo {
-        return lo;
-    }
-    if hi < v {
-        return hi;
-    }
-    numbers::canonical32(v)
+    numbers::canonical(x)
 }
 
 // 1 with the sign of x: +0 gives 1, -0 gives -1, NaN gives NaN. No comparison tells +0 from -0, so the sign is read off the pattern.
@@ -46,7 +35,7 @@ pub fn least(x: f64, y: f64) -> f64
     ensures { result ≡ least x y }
 {
     if x != x {
-        return numbers::canonical64(y);
+        return numbers::canonical(y);
     }
     if y < x {
         return y;
@@ -59,7 +48,7 @@ pub fn largest(x: f64, y: f64) -> f64
     ensures { result ≡ largest x y }
 {
     if x != x {
-        return numbers::canonical64(y);
+        return numbers::canonical(y);
     }
     if x < y {
         return y;

@@ -15,7 +15,7 @@ pub fn floor(x: f64) -> f64
     if x < 0.0 {
         return -above(-x);
     }
-    numbers::canonical64(x)
+    numbers::canonical(x)
 }
 
 // The least whole number that is not below x. NaN, an infinity and -0 stay, and -0.5 gives -0.
@@ -28,7 +28,7 @@ pub fn ceiling(x: f64) -> f64
     if x < 0.0 {
         return -below(-x);
     }
-    numbers::canonical64(x)
+    numbers::canonical(x)
 }
 
 // The floor of a y above 0. From 2^52 on every f64 is whole; below, the whole part is a float exactly.
@@ -62,11 +62,5 @@ fn above(y: f64) -> f64
 pub fn to_whole(x: f64) -> u64
     ensures { result ≡ to_unsigned 64 x }
 {
-    if x > -1.0 {
-        if x < 18446744073709551616.0 {
-            return std::num::truncating_f64_to_u64(x);
-        }
-        return u64::MAX;
-    }
-    0
+    std::num::saturating_f64_to_u64(x)
 }

@@ -4,16 +4,10 @@
 #![tactic(auto)]
 
 ghost use Rattle.std.specs.Prelude.{◌≡◌, ◌+◌, ◌-◌, ◌*◌, ◌^◌, ◌≤◌, ◌<◌};
-ghost use Rattle.std.specs.Float.{binary32, binary64};
 ghost use Rattle.numbers.specs.Arithmetic.{rooted};
 ghost use Rattle.roots.specs.Words.{IsFormat, RootOf};
 
-// x - 1, and 0 for 0.
-fn less_one(x: u64) -> u64
-    ensures { result ≡ x - 1 }
-{
-    if x == 0 { 0 } else { x - 1 }
-}
+use numbers::Real;
 
 // x · 2^s, where it fits.
 fn shifted(x: u64, s: u64) -> u64
@@ -79,7 +73,7 @@ fn root_pattern(b: u64, p: u64, e: u64) -> u64
     requires { IsFormat p e b }
     ensures { RootOf p e b result }
 {
-    let k = less_one(b >> (p - 1));
+    let k = (b >> (p - 1)).saturating_sub(1);
     let m = b - shifted(k, p - 1);
     // the leading digit of m goes to place p - 1, and the exponent is made even
     let z = (u64::leading_zeros(m) as u64) + p - 64;
@@ -88,40 +82,15 @@ fn root_pattern(b: u64, p: u64, e: u64) -> u64
     shifted(n / 2, p - 1) + (r + 1) / 2
 }
 
-// The root of x at f32: 24 digits, and the largest exponent is 127. What lies below zero has none, and a zero, of either sign, is its own.
-pub fn root32(x: f32) -> f32
-    ensures { result ≡ rooted binary32 x }
+// The root of x. What lies below zero has none, and a zero, of either sign, is its own.
+pub fn root<T: Real>(x: T) -> T
+    ensures { T.value result ≡ rooted T.format (T.value x) }
 {
-    if x > 0.0 {
-        if x < 1.0 / 0.0 {
-            let b = f32::to_bits(x);
-            let r = root_pattern(b as u64, 24, 127);
-            return f32::from_bits(r as u32);
+    if T::ZERO < x {
+        if x < T::INFINITY {
+            return T::of_pattern(root_pattern(x.pattern(), T::DIGITS, T::LARGEST_EXPONENT));
         }
         return x;
     }
-    if x == 0.0 {
-        return x;
-    }
-    let none: f32 = 0.0 / 0.0;
-    none
-}
-
-// The same at f64: 53 digits, and the largest exponent is 1023.
-pub fn root64(x: f64) -> f64
-    ensures { result ≡ rooted binary64 x }
-{
-    if x > 0.0 {
-        if x < 1.0 / 0.0 {
-            let b = f64::to_bits(x);
-            let r = root_pattern(b, 53, 1023);
-            return f64::from_bits(r);
-        }
-        return x;
-    }
-    if x == 0.0 {
-        return x;
-    }
-    let none: f64 = 0.0 / 0.0;
-    none
+    if x == T::ZERO { x } else { T::NAN }
 }

@@ -38,18 +38,18 @@ at_shifted : {p e b k s : ℕ} → IsFormat p e b → k ≡ expo p b → s ≡ k
 at_shifted {p} {e} {b} {k} {s} i ke se = known p e b k s (of_format i) i.above i.finite ke se
 
 pub overflow_sub-z : goal.overflow_sub-z
-overflow_sub-z c = (at_shifted c.requires c.less_one-k.ensures c.shifted.ensures).shift.enough
+overflow_sub-z c = (at_shifted c.requires c.saturating_sub-k.ensures c.shifted.ensures).shift.enough
 
 pub shifted-requires-2 : goal.shifted-requires-2
 shifted-requires-2 c =
     let z = of_format c.requires in
-    let k = at_shifted c.requires c.less_one-k.ensures c.shifted.ensures in
+    let k = at_shifted c.requires c.saturating_sub-k.ensures c.shifted.ensures in
     (omega (arith, k.wide_under, pow_mono {j = 60} (let x : c.args.p + 1 ≤ 60 = omega arith in x)), omega (arith, k.shift.few))
 
 pub whole_root-r-requires : goal.whole_root-r-requires
 whole_root-r-requires c =
     let p = c.args.p in
-    let k = at_shifted c.requires c.less_one-k.ensures c.shifted.ensures in
+    let k = at_shifted c.requires c.saturating_sub-k.ensures c.shifted.ensures in
     let z = of_format c.requires in
     let e = sym c.shifted-2.ensures in
     (subst (λ (y : ℕ). y < 2 ^ (p + 1)) e k.wide_under, subst (λ (y : ℕ). 2 ^ (p + 1) ≤ 4 * y) e k.wide_over, omega arith, omega arith)
@@ -58,4 +58,4 @@ pub returns : goal.returns
 returns c =
     let a = c.args in
     let at-root = subst (λ (y : ℕ). IsRoot (y * 2 ^ (a.p + 1)) c.whole_root-r.result) c.shifted-2.ensures c.whole_root-r.ensures in
-    meets a.p a.e a.b c.less_one-k.result c.shifted.result c.whole_root-r.result c.shifted-3.result c.requires c.less_one-k.ensures c.shifted.ensures at-root c.shifted-3.ensures
+    meets a.p a.e a.b c.saturating_sub-k.result c.shifted.result c.whole_root-r.result c.shifted-3.result c.requires c.saturating_sub-k.ensures c.shifted.ensures at-root c.shifted-3.ensures

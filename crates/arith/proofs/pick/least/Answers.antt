@@ -4,7 +4,7 @@ use Rattle.numbers.proofs.Laws.Comparing.{ne_itself}
 use Rattle.arith.proofs.pick.least.Goals as goal
 
 pub returns-then-x : goal.returns-then-x
-returns-then-x c = rw (sym (ne_itself c.args.x) ∙ c.if-x.true) c.canonical64.ensures
+returns-then-x c = rw (sym (ne_itself c.args.x) ∙ c.if-x.true) c.canonical.ensures
 
 pub returns : goal.returns
 returns c = rw (sym (ne_itself c.args.x) ∙ c.if-x.false, c.if-y-x.false)

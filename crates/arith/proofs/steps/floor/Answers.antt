@@ -15,4 +15,4 @@ pub returns-then-x-2 : goal.returns-then-x-2
 returns-then-x-2 c = ap neg (c.above.ensures ∙ ceiled_neg c.args.x) ∙ neg_neg _
 
 pub returns : goal.returns
-returns c = c.canonical64.ensures ∙ (at_rest c.args.x c.if-x.false c.if-x-2.false).0
+returns c = c.canonical.ensures ∙ (at_rest c.args.x c.if-x.false c.if-x-2.false).0
