@@ -10,14 +10,14 @@ ghost use Rattle.numbers.specs.Arithmetic.{rooted, narrowed, floored, ceiled, si
 pub extern "C" fn hoardmagpie_root32(x: f32) -> f32
     ensures { result ≡ rooted binary32 x }
 {
-    arith::root32(x)
+    arith::root(x)
 }
 
 #[unsafe(no_mangle)]
 pub extern "C" fn hoardmagpie_root64(x: f64) -> f64
     ensures { result ≡ rooted binary64 x }
 {
-    arith::root64(x)
+    arith::root(x)
 }
 
 #[unsafe(no_mangle)]
@@ -73,28 +73,28 @@ pub extern "C" fn hoardmagpie_to_whole(x: f64) -> u64
 pub extern "C" fn hoardmagpie_canonical32(x: f32) -> f32
     ensures { result ≡ x }
 {
-    arith::canonical32(x)
+    arith::canonical(x)
 }
 
 #[unsafe(no_mangle)]
 pub extern "C" fn hoardmagpie_canonical64(x: f64) -> f64
     ensures { result ≡ x }
 {
-    arith::canonical64(x)
+    arith::canonical(x)
 }
 
 #[unsafe(no_mangle)]
 pub extern "C" fn hoardmagpie_clamp32(x: f32, lo: f32, hi: f32) -> f32
     ensures { result ≡ clamped x lo hi }
 {
-    arith::clamp32(x, lo, hi)
+    arith::clamp(x, lo, hi)
 }
 
 #[unsafe(no_mangle)]
 pub extern "C" fn hoardmagpie_clamp64(x: f64, lo: f64, hi: f64) -> f64
     ensures { result ≡ clamped x lo hi }
 {
-    arith::clamp64(x, lo, hi)
+    arith::clamp(x, lo, hi)
 }
 
 #[unsafe(no_mangle)]

@@ -53,15 +53,15 @@ fn answer(op: Operation, pattern: u64) -> u64 {
     let x = arith::float64(pattern);
     match op {
         Operation::Root32 => {
-            arith::pattern32(arith::root32(arith::float32((pattern % 0x1_0000_0000) as u32))) as u64
+            arith::pattern32(arith::root(arith::float32((pattern % 0x1_0000_0000) as u32))) as u64
         }
-        Operation::Root64 => arith::pattern64(arith::root64(x)),
+        Operation::Root64 => arith::pattern64(arith::root(x)),
         Operation::Narrow => arith::pattern32(arith::narrow(x)) as u64,
         Operation::ExpNeg => arith::pattern32(arith::exp_neg(x)) as u64,
         Operation::Floor => arith::pattern64(arith::floor(x)),
         Operation::Ceiling => arith::pattern64(arith::ceiling(x)),
         Operation::Sign => arith::pattern64(arith::sign(x)),
-        Operation::ClampTo7 => arith::pattern64(arith::clamp64(x, 0.0, 7.0)),
+        Operation::ClampTo7 => arith::pattern64(arith::clamp(x, 0.0, 7.0)),
         Operation::Unknown => u64::MAX,
     }
 }

@@ -34,7 +34,7 @@ impl Kernel {
     pub fn sigma(smoothing: f32, spacing: f64, step: f64) -> f64
         ensures { result ≡ sigma_of smoothing spacing step }
     {
-        arith::clamp64(
+        arith::clamp(
             arith::widen(smoothing) * spacing / step,
             0.5,
             Kernel::MAX_SIGMA,

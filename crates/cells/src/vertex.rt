@@ -12,7 +12,7 @@ use grid::{Edge, Lattice};
 fn crossing_at(v0: f32, v1: f32, iso: f32) -> f32
     ensures { result ≡ crossing v0 v1 iso }
 {
-    arith::clamp32((iso - v0) / (v1 - v0), 0.0, 1.0)
+    arith::clamp((iso - v0) / (v1 - v0), 0.0, 1.0)
 }
 
 // The count along axis a, in f64; along the edge's own axis t is added.
@@ -30,7 +30,7 @@ fn count_along(axis: usize, a: usize, count: usize, t: f32) -> f64
 fn coordinate(origin: f64, step: f64, count: f64) -> f32
     ensures { result ≡ narrowed (world_along origin step count) }
 {
-    arith::canonical32(arith::narrow(origin + count * step))
+    arith::canonical(arith::narrow(origin + count * step))
 }
 
 // How much greater the number of the next node along an axis is.

@@ -37,7 +37,7 @@ fn copy_values(from: &[f32], to: &mut [f32])
 {
     let mut i = 0usize;
     while i < to.len() {
-        to[i] = arith::canonical32(from[i]);
+        to[i] = arith::canonical(from[i]);
         i += 1;
     }
 }

@@ -9,7 +9,7 @@ fn cell_along(n: usize, origin: f64, step: f64, p: f64) -> Along
     requires { Sides n }
     ensures { result ≡ along_of n origin step p }
 {
-    let u = arith::clamp64((p - origin) / step, 0.0, (n - 1) as f64);
+    let u = arith::clamp((p - origin) / step, 0.0, (n - 1) as f64);
     let floor = arith::to_whole(u);
     let cell = if floor < (n - 2) as u64 {
         floor as usize

@@ -51,9 +51,9 @@ fn p11(rt: &impl Print) -> io::Result<()> {
 }
 
 fn main(rt: HostRuntime) -> io::Result<()> {
-    single(&rt, b"P1 ", arith::root32(4.0))?;
-    line(&rt, b"P1 ", arith::pattern64(arith::root64(4.0)), 16)?;
-    line(&rt, b"P2 ", arith::pattern64(arith::root64(2.0)), 16)?;
+    single(&rt, b"P1 ", arith::root(4.0))?;
+    line(&rt, b"P1 ", arith::pattern64(arith::root(4.0)), 16)?;
+    line(&rt, b"P2 ", arith::pattern64(arith::root(2.0)), 16)?;
     single(&rt, b"P3 ", arith::narrow(1.000000059604644775390625))?;
     single(&rt, b"P4 ", arith::narrow(1.000000178813934326171875))?;
     single(

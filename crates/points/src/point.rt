@@ -59,7 +59,7 @@ fn long(x: f32, y: f32, z: f32) -> bool
             return true;
         }
     }
-    judge(arith::root32(square)).usable()
+    judge(arith::root(square)).usable()
 }
 
 impl Usability {
@@ -103,7 +103,7 @@ impl Point {
     fn length(self) -> f32
         ensures { result ≡ length_of self }
     {
-        arith::root32(squares(self.normal[0], self.normal[1], self.normal[2]))
+        arith::root(squares(self.normal[0], self.normal[1], self.normal[2]))
     }
 
     // Whether each position component is finite.

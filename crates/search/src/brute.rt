@@ -79,8 +79,8 @@ impl Least {
     {
         match self {
             Least::Empty => Least::Empty,
-            Least::One(a) => Least::One(arith::root32(a)),
-            Least::Two(a, b) => Least::Two(arith::root32(a), arith::root32(b)),
+            Least::One(a) => Least::One(arith::root(a)),
+            Least::Two(a, b) => Least::Two(arith::root(a), arith::root(b)),
         }
     }
 }

@@ -51,7 +51,7 @@ fn one_turn(
     ensures { Turned g limit (record { x = x.old; r = r.old; p = p.old; rr = rr }) result x.new r.new
         p.new }
 {
-    if arith::root64(rr) <= limit {
+    if arith::root(rr) <= limit {
         return Turn::Done;
     }
     apply(g, p, ap);
@@ -124,7 +124,7 @@ fn descend(
     requires b_len { length b.now ≡ all_nodes g }
     ensures { x.new ≡ conjugate g tolerance cap b.now x.old }
 {
-    let norm = arith::root64(squares(g, b));
+    let norm = arith::root(squares(g, b));
     if norm == 0.0 {
         return;
     }

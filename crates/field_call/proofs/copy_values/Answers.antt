@@ -9,7 +9,7 @@ pub loop-i-init : goal.loop-i-init
 loop-i-init c = filled_none
 
 pub loop-i-preserved : goal.loop-i-preserved
-loop-i-preserved c = filled_more c.loop-i.invariant (omega arith) c.canonical32.ensures
+loop-i-preserved c = filled_more c.loop-i.invariant (omega arith) c.canonical.ensures
 
 pub returns : goal.returns
 returns c = filled_done c.loop-i.invariant (sym c.requires) (omega (arith, c.requires)) ∙ sym (tabulate_self nan c.args.from.now)

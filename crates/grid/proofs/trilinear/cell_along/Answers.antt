@@ -9,4 +9,4 @@ pub returns : goal.returns
 unfolding placed
 returns c =
     let smaller : c.if-floor-n.cell ≡ min c.to_whole-floor.result (c.args.n - 2) = elim c.if-floor-n.branch [ then-floor-n w ↦ omega arith | else-floor-n w ↦ omega arith ] in
-    along_is _ _ _ _ _ _ _ c.clamp64-u.ensures c.to_whole-floor.ensures smaller
+    along_is _ _ _ _ _ _ _ c.clamp-u.ensures c.to_whole-floor.ensures smaller

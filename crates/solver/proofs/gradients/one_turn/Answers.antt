@@ -25,21 +25,21 @@ module _ (g : Grid) (limit : Float) (x r p : List Float) (rr : Float) where
   stepped e t ea ep u en eu =
       let alpha = alpha_is g limit x r p rr ea ep en in (pap_stops g limit x r p rr false e t ea ep u, alpha, step_is g limit x r p rr ea alpha eu)
 
-pub returns-then-root64-limit : goal.returns-then-root64-limit
-returns-then-root64-limit c =
-    λ k. ap (λ (t : State). t.x) (steps_stop c.args.g c.args.limit k _ (low_stops c.args.g c.args.limit c.args.x.now c.args.r.now c.args.p.now c.args.rr c.root64.ensures c.if-root64-limit.true))
+pub returns-then-root-limit : goal.returns-then-root-limit
+returns-then-root-limit c =
+    λ k. ap (λ (t : State). t.x) (steps_stop c.args.g c.args.limit k _ (low_stops c.args.g c.args.limit c.args.x.now c.args.r.now c.args.p.now c.args.rr c.root.ensures c.if-root-limit.true))
 
 pub returns-then-pap : goal.returns-then-pap
 returns-then-pap c =
-    λ k. ap (λ (t : State). t.x) (steps_stop c.args.g c.args.limit k _ (pap_stops c.args.g c.args.limit c.args.x.now c.args.r.now c.args.p.now c.args.rr true c.root64.ensures c.if-root64-limit.false c.apply.ensures c.dot-pap.ensures c.if-pap.true))
+    λ k. ap (λ (t : State). t.x) (steps_stop c.args.g c.args.limit k _ (pap_stops c.args.g c.args.limit c.args.x.now c.args.r.now c.args.p.now c.args.rr true c.root.ensures c.if-root-limit.false c.apply.ensures c.dot-pap.ensures c.if-pap.true))
 
 pub returns-then-alpha : goal.returns-then-alpha
 returns-then-alpha c =
-    let t = stepped c.args.g c.args.limit c.args.x.now c.args.r.now c.args.p.now c.args.rr c.root64.ensures c.if-root64-limit.false c.apply.ensures c.dot-pap.ensures c.if-pap.false c.narrow-alpha.ensures c.update-rr_new.ensures in
+    let t = stepped c.args.g c.args.limit c.args.x.now c.args.r.now c.args.p.now c.args.rr c.root.ensures c.if-root-limit.false c.apply.ensures c.dot-pap.ensures c.if-pap.false c.narrow-alpha.ensures c.update-rr_new.ensures in
     let alpha = differs c.narrow-alpha.result c.if-alpha.true in
     nan_done c.args.g c.args.limit c.args.x.now c.args.r.now c.args.p.now c.args.rr (some_node c.args.g c.requires.sides) t.0 (sym alpha ∙ t.1) t.2
 
 pub returns : goal.returns
 returns c =
-    let t = stepped c.args.g c.args.limit c.args.x.now c.args.r.now c.args.p.now c.args.rr c.root64.ensures c.if-root64-limit.false c.apply.ensures c.dot-pap.ensures c.if-pap.false c.narrow-alpha.ensures c.update-rr_new.ensures in
+    let t = stepped c.args.g c.args.limit c.args.x.now c.args.r.now c.args.p.now c.args.rr c.root.ensures c.if-root-limit.false c.apply.ensures c.dot-pap.ensures c.if-pap.false c.narrow-alpha.ensures c.update-rr_new.ensures in
     (t.0, t.2)

@@ -6,4 +6,4 @@ use Rattle.blur.proofs.kernel.Kernel.sigma.Goals as goal
 
 pub returns : goal.returns
 unfolding sigma_of
-returns c = c.clamp64.ensures ∙ rw c.widen.ensures
+returns c = c.clamp.ensures ∙ rw c.widen.ensures
