@@ -77,12 +77,11 @@ fn magnitude(m: u64) -> u64
 pub fn narrow(x: f64) -> f32
     ensures { result ≡ narrowed x }
 {
-    if x == x {
-        let b: u64 = f64::to_bits(x);
-        let m = b % 0x8000_0000_0000_0000;
-        let s = (b >> 63) * 0x8000_0000;
-        f32::from_bits((s + magnitude(m)) as u32)
-    } else {
-        0.0 / 0.0
+    if x.is_nan() {
+        return 0.0 / 0.0;
     }
+    let b: u64 = f64::to_bits(x);
+    let m = b % 0x8000_0000_0000_0000;
+    let s = (b >> 63) * 0x8000_0000;
+    f32::from_bits((s + magnitude(m)) as u32)
 }

@@ -21,7 +21,7 @@ pub fn clamp<T: Real>(x: T, lo: T, hi: T) -> T
 pub fn sign(x: f64) -> f64
     ensures { result ≡ signed x }
 {
-    if x != x {
+    if x.is_nan() {
         return 0.0 / 0.0;
     }
     if f64::to_bits(x) >> 63 == 0 {
@@ -34,7 +34,7 @@ pub fn sign(x: f64) -> f64
 pub fn least(x: f64, y: f64) -> f64
     ensures { result ≡ least x y }
 {
-    if x != x {
+    if x.is_nan() {
         return numbers::canonical(y);
     }
     if y < x {
@@ -47,7 +47,7 @@ pub fn least(x: f64, y: f64) -> f64
 pub fn largest(x: f64, y: f64) -> f64
     ensures { result ≡ largest x y }
 {
-    if x != x {
+    if x.is_nan() {
         return numbers::canonical(y);
     }
     if x < y {

@@ -28,15 +28,6 @@ eqb_sym a b = go (a == b) (b == a) refl refl
 
 -- ---- a value with itself
 
--- only a NaN differs from itself
-pub ne_itself : (x : Float) → ne x x ≡ is_nan x
-unfolding ne is_nan
-ne_itself nan = refl
-ne_itself (inf true) = refl
-ne_itself (inf false) = refl
-ne_itself (fin true m e) = rw (eq-eqb (m * up e * down e) (m * up e * down e) refl)
-ne_itself (fin false m e) = rw (eq-eqb (m * up e * down e) (m * up e * down e) refl)
-
 pub lt_itself : (x : Float) → lt x x ≡ false
 unfolding lt
 lt_itself nan = refl

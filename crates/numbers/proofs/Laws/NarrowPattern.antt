@@ -10,12 +10,12 @@ use Rattle.std.specs.Float.{nan, inf, fin, binary32, binary64}
 use Rattle.std.specs.Float.Ieee.{size, units, round, div, eq, ne, fits, is_nan, of_fields, of_bits, nan_bits}
 use Rattle.std.specs.Float.Ieee.Digits.{size-le}
 use Rattle.std.specs.Float.Ieee.Fits.{round_is, nearest-le}
-use Rattle.std.specs.Float.Ieee.Compare.{differs_from_itself}
 use Rattle.std.specs.Float.Ieee.Bits.{to_bits-lt, of_bits-to_bits, nan_bits_is, nan_bits_above}
 use Rattle.std.specs.Float.Ieee.Nearest.{closest, closest_same, nearest-ge}
 use Rattle.numbers.specs.Arithmetic.{narrowed}
 use Rattle.numbers.proofs.Laws.Binary.{pow_sums, size_gt, shift_twice}
 use Rattle.numbers.proofs.Laws.Patterns.{of_bits_is, zero_field, suc_field, to_bits_inf, units_inf, packed}
+use Rattle.numbers.proofs.Laws.NanTest.{nan_of}
 use Rattle.numbers.proofs.Laws.NarrowKeeps.{narrowed_val, narrowed_fits, narrowed_nan}
 use Rattle.numbers.proofs.Laws.ClosestAdd.{closest_past}
 
@@ -237,14 +237,8 @@ module _ (x : Float) (F : T (fits binary64 x)) (N : is_nan x ≡ false) where
     pub narrowed_no_nan : T (not (nan_bits binary32 p))
     narrowed_no_nan = subst (λ (c : Bool). T (not c)) (sym (nan_bits_is binary32 p ∙ ap is_nan narrowed_is ∙ narrowed_nan x ∙ N)) tt
 
--- ---- the test for a NaN, and what a NaN gives
+-- ---- what a NaN gives
 
-pub not_nan : (x : Float) → eq x x ≡ true → is_nan x ≡ false
-unfolding eq is_nan
-not_nan nan h = absurd (false≢true h)
-not_nan (inf s) h = refl
-not_nan (fin s m e) h = refl
-
-pub nan_narrows : (x : Float) → eq x x ≡ false → div binary32 (of_bits binary32 0) (of_bits binary32 0) ≡ narrowed x
-unfolding ne narrowed div of_bits
-nan_narrows x h = sym (ap narrowed (differs_from_itself x (subst (λ (b : Bool). T (not b)) (sym h) tt)))
+pub nan_narrows : (x : Float) → is_nan x ≡ true → div binary32 (of_bits binary32 0) (of_bits binary32 0) ≡ narrowed x
+unfolding narrowed div of_bits
+nan_narrows x h = sym (ap narrowed (nan_of x h))

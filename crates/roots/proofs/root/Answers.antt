@@ -1,11 +1,12 @@
 -- The goals of `roots::root`: by the tests x is finite and above zero, the infinity, a zero, or none of these (`RootCases`), and the
 -- first has `root_pattern`'s pattern. The laws of `Real` say of the numbers what the tests say of the type's values. Assumes nothing.
-use Rattle.std.proofs.Common.{◌≡◌, ℕ, ◌+◌, ◌-◌, ◌*◌, ◌^◌, ◌<◌, Bool, true, false, T, pos, refl, sym, ap, ◌∙◌, subst}
+use Rattle.std.proofs.Common.{◌≡◌, ℕ, ◌+◌, ◌-◌, ◌*◌, ◌^◌, ◌<◌, Bool, false, pos, refl, sym, ap, ◌∙◌, subst}
 use Rattle.std.specs.Float.{Format, binary32, binary64, inf, fin}
 use Rattle.std.specs.Float.Ieee.{lt, eq, prec, emax, ones, hid, of_bits}
 use Rattle.std.specs.Float.Ieee.Bits.{of_bits-to_bits}
 use Rattle.std.specs.Ordering.{partial_lt}
 use Rattle.numbers.specs.Arithmetic.{rooted}
+use Rattle.numbers.proofs.Laws.Comparing.{holds}
 use Rattle.numbers.proofs.Laws.RootCases.{positive_of, infinite_of, zero_of, other_of, pattern_of}
 use Rattle.roots.specs.Words.{IsFormat}
 use Rattle.roots.proofs.root.Given.{Over}
@@ -22,10 +23,6 @@ module _ (g : Over) (x : g.row.T.Denot) {b : Bool} {k : g.row.T.Denot} where
   at_zero : b ≡ g.T.PartialEq.eq x k → k ≡ g.T.Real.ZERO → eq (g.T.Real.value x) (fin false 0 (pos 0)) ≡ b
   at_zero given is = sym (given ∙ g.met.T.Real.equal x k ∙ ap (eq (g.T.Real.value x)) (ap g.T.Real.value is ∙ g.met.T.Real.zero_value))
 
--- the format holds what a value of the type is
-held : {b : Bool} → b ≡ true → T b
-held e = subst T (sym e) tt
-
 -- a pattern between 0 and the infinity's is one that `root_pattern` takes
 taken : (f : Format) {p e b : ℕ} → p ≡ prec f → e ≡ emax f → 0 < b → b < ones f * hid f → IsFormat p e b
 taken f {p} {e} {b} dp de above below =
@@ -40,7 +37,7 @@ root_pattern-requires g c =
     let f = g.T.Real.format in
     let m = g.met.T.Real in
     let positive = positive_of _ (above_zero g c.args.x c.if-lt.ensures c.ZERO.ensures) (below_infinity g c.args.x c.if-lt-2.ensures c.INFINITY.ensures) in
-    let b = pattern_of f _ (held c.pattern.ensures.held) positive in
+    let b = pattern_of f _ (holds c.pattern.ensures.held) positive in
     let at = sym c.pattern.ensures.value in
     taken f (c.DIGITS.ensures ∙ m.digits) (c.LARGEST_EXPONENT.ensures ∙ m.largest_exponent) (subst (λ (y : ℕ). 0 < y) at b.0) (subst (λ (y : ℕ). y < ones f * hid f) at b.1)
 
@@ -49,7 +46,7 @@ returns-then-lt-2 g c =
     let f = g.T.Real.format in
     let m = g.met.T.Real in
     let root = c.root_pattern.ensures f (c.DIGITS.ensures ∙ m.digits) (c.LARGEST_EXPONENT.ensures ∙ m.largest_exponent) in
-    c.of_pattern.ensures ∙ root.0 ∙ ap (rooted f) (ap (of_bits f) c.pattern.ensures.value ∙ of_bits-to_bits f _ (held c.pattern.ensures.held))
+    c.of_pattern.ensures ∙ root.0 ∙ ap (rooted f) (ap (of_bits f) c.pattern.ensures.value ∙ of_bits-to_bits f _ (holds c.pattern.ensures.held))
 
 pub returns-then-lt : goal.returns-then-lt
 returns-then-lt g c = infinite_of _ _ (above_zero g c.args.x c.if-lt.ensures c.ZERO.ensures) (below_infinity g c.args.x c.if-lt-2.ensures c.INFINITY.ensures)

@@ -1,12 +1,8 @@
 -- `arith::above`: from 2 ^ 52 on a value is whole; under it the whole part and the number after it are floats exactly. Assumes nothing.
-use Rattle.std.proofs.Common.{◌≡◌, true, T, sym, subst, arith}
-use Rattle.std.specs.Float.Ieee.{Float, binary64, fits}
+use Rattle.std.proofs.Common.{arith}
+use Rattle.numbers.proofs.Laws.Comparing.{holds}
 use Rattle.numbers.proofs.Laws.Steps.{in_range, q_lt, castable, castable_next, when_whole, ceil_part, from_limit}
 use Rattle.arith.proofs.steps.above.Goals as goal
-
--- what owning an `f64` tells: the format holds it
-held : (x : Float) → fits binary64 x ≡ true → T (fits binary64 x)
-held x e = subst T (sym e) tt
 
 pub truncating_f64_to_u64-q-requires-clause-lower_bound : goal.truncating_f64_to_u64-q-requires-clause-lower_bound
 truncating_f64_to_u64-q-requires-clause-lower_bound c = (in_range c.args.y c.requires c.if-y.true).0
@@ -30,4 +26,4 @@ pub returns-else-w-y : goal.returns-else-w-y
 returns-else-w-y c = let g = c.truncating_f64_to_u64-q in ceil_part c.args.y c.requires c.if-y.true g.result g.ensures c.if-w-y.false
 
 pub returns-else-y : goal.returns-else-y
-returns-else-y c = (from_limit c.args.y (held c.args.y c.well_formed.0.1) c.requires c.if-y.false).1
+returns-else-y c = (from_limit c.args.y (holds c.well_formed.0.1) c.requires c.if-y.false).1
