@@ -4,7 +4,7 @@ use Rattle.std.proofs.Common.{sym, ap, ◌∙◌, subst, true≢false, mul_comm,
 use Rattle.std.specs.Bool.{beq}
 use Rattle.std.proofs.lemmas.Bool.{false≢true, eqb-false}
 use Rattle.std.proofs.Math.Nat.{mul-mul-mul_comm, eq_of_mul-eq-mul_right}
-use Rattle.std.specs.Float.Ieee.{nan, up, down, below, level, lt, eq, le, ne, is_nan}
+use Rattle.std.specs.Float.Ieee.{nan, up, down, below, level, lt, eq, le, is_nan}
 use Rattle.std.specs.Float.{inf, fin}
 use Rattle.std.specs.Float.Ieee.Exact.{HasValue}
 use Rattle.std.specs.Float.Ieee.Fits.{down_pos}

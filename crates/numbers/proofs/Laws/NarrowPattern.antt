@@ -1,13 +1,12 @@
 -- The binary32 pattern of what an f64 narrows to, from the f64's pattern. m is that pattern without its sign, x = m / 2 ^ 52 its exponent's field and
 -- t = m % 2 ^ 52 its digits. `round` keeps a number q of the 53 digits and drops the rest, 29 of them for a result in the normal range and more below
 -- it, and the pattern is k * 2 ^ 23 + q (`packed`): also where q carries into the exponent, or the result is an infinity. Assumes nothing.
-use Rattle.std.specs.Prelude.{◌≡◌, ℕ, suc, ◌+◌, ◌-◌, ◌*◌, ◌/◌, ◌%◌, ◌^◌, ◌<◌, ◌≤◌, Bool, true, false, cond, not, T, ◌≢◌, nat_le, to_bits, refl, Float}
+use Rattle.std.specs.Prelude.{◌≡◌, ℕ, suc, ◌+◌, ◌-◌, ◌*◌, ◌/◌, ◌%◌, ◌^◌, ◌<◌, ◌≤◌, Bool, true, false, cond, not, T, ◌≢◌, nat_le, to_bits, Float}
 use Rattle.std.proofs.Common.{sym, ap, ◌∙◌, subst, inl, inr, add_comm, le_trans, le_of_eq, lt_of_lt_of_le, lt_of_le_of_lt, eq-or-lt_of_le, mul_assoc, mul-le-mul_right, mul-lt-mul_of_pos_right, mul-pos, mod-lt, le-div_iff_mul-le, div-lt_iff_lt-mul, arith, leb→le, nltb→le, lit≤, pow-add, pow_pos, pow_mono, shl_lt}
-use Rattle.std.proofs.lemmas.Bool.{false≢true}
 use Prim.Native.Nat.{compare}
 use Rattle.std.proofs.Math.Dec.{nleb→lt}
-use Rattle.std.specs.Float.{nan, inf, fin, binary32, binary64}
-use Rattle.std.specs.Float.Ieee.{size, units, round, div, eq, ne, fits, is_nan, of_fields, of_bits, nan_bits}
+use Rattle.std.specs.Float.{binary32, binary64}
+use Rattle.std.specs.Float.Ieee.{size, units, round, div, fits, is_nan, of_fields, of_bits, nan_bits}
 use Rattle.std.specs.Float.Ieee.Digits.{size-le}
 use Rattle.std.specs.Float.Ieee.Fits.{round_is, nearest-le}
 use Rattle.std.specs.Float.Ieee.Bits.{to_bits-lt, of_bits-to_bits, nan_bits_is, nan_bits_above}

@@ -3,7 +3,6 @@
 -- nothing.
 use Rattle.std.specs.Prelude.{ℕ, ◌+◌, ◌-◌, ◌*◌, ◌/◌, ◌%◌, ◌^◌, ◌<◌, ◌≤◌}
 use Rattle.std.specs.Int.Count.{count_leading_zeros}
-use Rattle.std.specs.Float.Ieee.{low}
 
 abbrev pub zeros : ℕ → ℕ → ℕ
 zeros p m = count_leading_zeros 64 m + p - 64

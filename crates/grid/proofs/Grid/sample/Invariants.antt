@@ -5,4 +5,3 @@ use Rattle.grid.proofs.Grid.sample.Given as goal
 
 abbrev pub invariant-loop-c : goal.invariant-loop-c
 invariant-loop-c l = l.sum ≡ sum_to l.self.nodes l.values l.cell l.c
-
