@@ -22,6 +22,7 @@ pub fn coords_of(ny: usize, nz: usize, node: Node) -> [usize; 3]
     [row / ny, row % ny, node.0 % nz]
 }
 
+// Makers and readers have names, where `From` has none: `Edge::at(place)` stands beside `Edge::of(node, axis)`, and `place` says what the number is for.
 impl Node {
     // The node whose value stands at this place of a slice.
     pub fn of(place: usize) -> Node
