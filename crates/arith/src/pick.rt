@@ -30,7 +30,8 @@ pub fn sign(x: f64) -> f64
     -1.0
 }
 
-// The lesser of two. A NaN gives the other, and of two equal ones the first stays.
+// The lesser of two. A NaN gives the other, and of two equal ones the first stays. (`largest` differs in one `<`: one function for both would take it as
+// a flag or a closure.)
 pub fn least(x: f64, y: f64) -> f64
     ensures { result ≡ least x y }
 {

@@ -1,4 +1,5 @@
-// Floor, ceiling, and the cast to a whole number, for every f64.
+// Floor, ceiling, and the cast to a whole number, for every f64. Floor and ceiling call one another's half, `below` and `above`, at the other sign: with
+// the direction as a parameter each would ask for it at every step.
 ghost use Rattle.std.specs.Prelude.{◌≡◌, true, false, pos};
 ghost use Rattle.std.specs.Float.Ieee as Ieee;
 ghost use Rattle.std.specs.Float.{fin};
