@@ -30,8 +30,8 @@ module _ (plane n : ℕ) (x : List Float) (first : ℕ) where
       → Filled (inner_row_at plane n x first) y₀ (set y k v) (k + 1)
   row_more {y₀} {y} {k} so_far size low high e = filled_more so_far (omega arith) (e ∙ row_at_lem k _ (no_end n k low high))
 
-  pub row_done : {y₀ y : List Float} {k : ℕ} → Filled (inner_row_at plane n x first) y₀ y k → length y₀ ≡ n → k + 1 ≡ n
-      → set y k zero32 ≡ tabulate n (inner_row_at plane n x first)
-  row_done {y₀} {y} {k} so_far size last =
-      let k_is : k ≡ n - 1 = omega arith in
-      filled_done (filled_more so_far (omega arith) (row_at_lem k _ (ap (at_end n) k_is ∙ last_end n))) size (omega arith)
+  pub row_done : {y₀ y : List Float} {k : ℕ} → Filled (inner_row_at plane n x first) y₀ y k → length y₀ ≡ n → k ≡ n - 1 → 0 < n
+      → set y (n - 1) zero32 ≡ tabulate n (inner_row_at plane n x first)
+  row_done {y₀} {y} {k} so_far size last some =
+      ap (λ (m : ℕ). set y m zero32) (sym last)
+      ∙ filled_done (filled_more so_far (omega arith) (row_at_lem k _ (ap (at_end n) last ∙ last_end n))) size (omega arith)

@@ -26,12 +26,10 @@ fn inner_row(x: &[f32], y: &mut [f32], first: Node, plane: usize)
 {
     let n = y.len();
     y[0] = 0.0;
-    let mut k = 1usize;
-    while k < n - 1 {
+    for k in 1..n - 1 {
         y[k] = stencil(x, first.after(k), plane, n);
-        k += 1;
     }
-    y[k] = 0.0;
+    y[n - 1] = 0.0;
 }
 
 // Row i·n+j of A x.
@@ -56,12 +54,10 @@ fn apply_between(g: Grid, x: &[f32], y: &mut [f32])
 {
     let n = g.nodes;
     let rows = (n - 2) * n;
-    let mut r = 0usize;
-    while r < rows {
+    for r in 0..rows {
         let a = r * n;
         let e = a + n;
         apply_row(g, x, &mut y[a..e], n + r);
-        r += 1;
     }
 }
 

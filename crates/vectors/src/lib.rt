@@ -16,10 +16,8 @@ pub fn dot(g: Grid, a: &[f32], b: &[f32]) -> f64
     ensures { result ≡ dotted g a.now b.now }
 {
     let mut s = 0.0f64;
-    let mut i = 0usize;
-    while i < a.len() {
+    for i in 0..a.len() {
         s = s + arith::widen(a[i]) * arith::widen(b[i]);
-        i += 1;
     }
     s
 }
@@ -30,11 +28,9 @@ pub fn squares(g: Grid, a: &[f32]) -> f64
     ensures { result ≡ dotted g a.now a.now }
 {
     let mut s = 0.0f64;
-    let mut i = 0usize;
-    while i < a.len() {
+    for i in 0..a.len() {
         let v = arith::widen(a[i]);
         s = s + v * v;
-        i += 1;
     }
     s
 }
@@ -46,14 +42,12 @@ pub fn advance(g: Grid, x: &mut [f32], r: &mut [f32], p: &[f32], ap: &[f32], alp
     ensures { Advanced g alpha x.old r.old p.now ap.now x.new r.new result }
 {
     let mut s = 0.0f64;
-    let mut i = 0usize;
-    while i < x.len() {
+    for i in 0..x.len() {
         x[i] = x[i] + alpha * p[i];
         let v = r[i] - alpha * ap[i];
         r[i] = v;
         let w = arith::widen(v);
         s = s + w * w;
-        i += 1;
     }
     s
 }
@@ -63,10 +57,8 @@ pub fn xpay(p: &mut [f32], r: &[f32], beta: f32)
     requires { length r.now ≡ length p.old }
     ensures { p.new ≡ tabulate (length p.old) (plus_at beta r.now p.old) }
 {
-    let mut i = 0usize;
-    while i < p.len() {
+    for i in 0..p.len() {
         p[i] = r[i] + beta * p[i];
-        i += 1;
     }
 }
 
@@ -75,10 +67,8 @@ pub fn less(r: &mut [f32], b: &[f32], ax: &[f32])
     requires { (length b.now ≡ length r.old) × (length ax.now ≡ length r.old) }
     ensures { r.new ≡ tabulate (length r.old) (less_at b.now ax.now) }
 {
-    let mut i = 0usize;
-    while i < r.len() {
+    for i in 0..r.len() {
         r[i] = b[i] - ax[i];
-        i += 1;
     }
 }
 
@@ -87,9 +77,7 @@ pub fn copy(p: &mut [f32], r: &[f32])
     requires { length r.now ≡ length p.old }
     ensures { p.new ≡ r.now }
 {
-    let mut i = 0usize;
-    while i < p.len() {
+    for i in 0..p.len() {
         p[i] = r[i];
-        i += 1;
     }
 }

@@ -12,7 +12,7 @@ pub loop-r-preserved : goal.loop-r-preserved
 loop-r-preserved c =
     let n = c.args.g.nodes in
     let row = row_end n c.loop-r-test.true in
-    (between_more n c.args.x.now c.loop-r.r c.loop-r.invariant.0 c.apply_row.ensures (omega (arith, c.requires.x_len.1)), omega (arith, c.loop-r-test.true))
+    (between_more n c.args.x.now c.loop-r.r c.loop-r.invariant.0 c.apply_row.ensures (omega (arith, c.requires.x_len.1)), omega arith)
 
 pub returns : goal.returns
 returns c =

@@ -5,7 +5,4 @@ use Rattle.laplacian.specs.Words.{inner_row_at}
 use Rattle.laplacian.proofs.inner_row.Given as goal
 
 abbrev pub invariant-loop-k : goal.invariant-loop-k
-invariant-loop-k l = Filled (inner_row_at l.plane l.n l.x l.first.0) l.initial.y l.y l.k × (length l.initial.y ≡ l.n) × (1 ≤ l.k) × (l.k < l.n)
-
-abbrev pub decreases-loop-k : goal.decreases-loop-k
-decreases-loop-k l = l.n - l.k
+invariant-loop-k l = Filled (inner_row_at l.plane l.n l.x l.first.0) l.initial.y l.y l.k × (length l.initial.y ≡ l.n) × (1 ≤ l.k) × (l.k < l.n) × (l.k-end ≡ l.n - 1)

@@ -1,13 +1,13 @@
 -- `vectors::squares` meets its contract: after i turns `s` is the sum of the first i squares. Assumes nothing.
-use Rattle.std.proofs.Common.{arith}
+use Rattle.std.proofs.Common.{refl, arith}
 use Rattle.vectors.proofs.Laws.Dotted.{summed_none, summed_more, summed_done}
 use Rattle.vectors.proofs.squares.Goals as goal
 
 pub loop-i-init : goal.loop-i-init
-loop-i-init c = summed_none
+loop-i-init c = (summed_none, refl)
 
 pub loop-i-preserved : goal.loop-i-preserved
-loop-i-preserved c = summed_more c.loop-i.invariant (omega arith) (rw c.widen-v.ensures)
+loop-i-preserved c = (summed_more c.loop-i.invariant.0 (omega arith) (rw c.widen-v.ensures), refl)
 
 pub returns : goal.returns
-returns c = summed_done c.args.g c.loop-i.invariant c.requires (omega arith)
+returns c = summed_done c.args.g c.loop-i.invariant.0 c.requires (omega arith)
