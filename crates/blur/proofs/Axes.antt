@@ -2,7 +2,7 @@
 -- axis 2 the row is one itself, read as a part of v. A node's digits give its line. Assumes nothing.
 use mathlib.Core.Path.{◌≡◌, refl, sym, ap, ◌∙◌}
 use mathlib.Core.List.{List}
-use Prim.Native.Nat.{ℕ, zero, suc, ◌+◌, ◌*◌, ◌/◌, ◌%◌, ◌<◌}
+use Prim.Native.Nat.{ℕ, zero, suc, ◌+◌, ◌*◌, ◌/◌, ◌%◌, ◌<◌, ◌≤◌}
 use native.Mathlib.Nat.{mul_assoc, add-mul, div-add-mod'}
 use native.Mathlib.Omega.{arith}
 use lib.Arith.{digits_div, digits_mod}
@@ -11,8 +11,7 @@ use Rattle.lists.specs.Lists.{tabulate, at, part}
 use Rattle.lists.specs.Laws.Tabulate.{tabulate_ext}
 use Rattle.lists.specs.Laws.Part.{part_at}
 use Rattle.closed.specs.Grid.{node}
-use Rattle.blur.specs.declared.blur.Place.{Place}
-use Rattle.blur.specs.declared.blur.Place.TheVariants.{At, Outside}
+use Rattle.std.specs.Prelude.{Option, Some, None}
 use Rattle.blur.specs.Blur.{moved_to, place_along, line_node, with_term, blur_to, blur_at, offset_count}
 use Rattle.blur.specs.Words.{across}
 use Rattle.blur.proofs.Moved.{inside_moved}
@@ -27,9 +26,9 @@ blur_lines u v kernel l m n place radius zero same = refl
 blur_lines u v kernel l m n place radius (suc t) same =
     go (moved_to n radius place t) (at kernel t) (λ p e. same p (inside_moved n radius place t e).2) (blur_lines u v kernel l m n place radius t same)
   where
-    go : (c : Place) (w : Float) {a b : Float} → ((p : ℕ) → c ≡ At p → at u (l p) ≡ at v (m p)) → a ≡ b → with_term u l w c a ≡ with_term v m w c b
-    go (At p) w h e = unfold with_term in cc (h p refl)
-    go Outside w h e = unfold with_term in e
+    go : (c : Option ℕ) (w : Float) {a b : Float} → ((p : ℕ) → c ≡ Some p → at u (l p) ≡ at v (m p)) → a ≡ b → with_term u l w c a ≡ with_term v m w c b
+    go (Some p) w h e = unfold with_term in cc (h p refl)
+    go None w h e = unfold with_term in e
 
 -- ---- the three axes
 
@@ -82,12 +81,12 @@ module _ (n r : ℕ) (v kernel : List Float) (radius : ℕ) {last : List Float} 
       e
       ∙ ap (λ (a : ℕ). tabulate n (λ k. blur_at a n radius kernel v (r * n + k))) (sym is)
 
-  pub axis_2 : (axis : ℕ) → (axis ≡ 0 → ⊥) → (axis ≡ 1 → ⊥)
+  pub axis_2 : (axis : ℕ) → 2 ≤ axis
       → last ≡ tabulate len (λ k. blur_to (part (r * n) (r * n + n) v) (λ p. p) len k radius kernel (offset_count radius))
       → last ≡ tabulate n (λ k. blur_at axis n radius kernel v (r * n + k))
-  axis_2 zero a b e = absurd (a refl)
-  axis_2 (suc zero) a b e = absurd (b refl)
-  axis_2 (suc (suc x)) a b e =
+  axis_2 zero h e = absurd (omega arith)
+  axis_2 (suc zero) h e = absurd (omega arith)
+  axis_2 (suc (suc x)) _ e =
       along (suc (suc x)) (part (r * n) (r * n + n) v) (λ _ p. p) (λ k. k)
       (λ k h p hp. part_at nan (r * n) (r * n + n) v p (omega arith) ∙ ap (at v) (line_2 n r h p x))
       (λ k h. sym (digits_mod r h))

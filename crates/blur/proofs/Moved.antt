@@ -7,35 +7,34 @@ use Prim.Native.Nat.{ℕ, ◌+◌, ◌-◌, ◌*◌, ◌<◌, ◌≤◌}
 use native.Mathlib.Omega.{arith}
 use borrow.Author.Tests.{lt-ltb, le-ltb, le-leb, lt-leb, ltb-true, ltb-false, leb-true, leb-false}
 use lib.Dec.{leb, ltb}
-use Rattle.blur.specs.declared.blur.Place.{Place}
-use Rattle.blur.specs.declared.blur.Place.TheVariants.{At, Outside}
+use Rattle.std.specs.Prelude.{Option, Some, None}
 use Rattle.blur.specs.Blur.{moved_to}
 use Rattle.blur.specs.Words.{Reach}
 
 module _ (n radius place t : ℕ) where
-  pub moved_inside : {p : ℕ} → radius ≤ place + t → place + t - radius ≡ p → p < n → moved_to n radius place t ≡ At p
+  pub moved_inside : {p : ℕ} → radius ≤ place + t → place + t - radius ≡ p → p < n → moved_to n radius place t ≡ Some p
   unfolding moved_to
-  moved_inside {p} low is high = rw (le-leb radius (place + t) low, lt-ltb (place + t - radius) n (omega arith)) (ap At is)
+  moved_inside {p} low is high = rw (le-leb radius (place + t) low, lt-ltb (place + t - radius) n (omega arith)) (ap Some is)
 
-  pub moved_before : place + t < radius → moved_to n radius place t ≡ Outside
+  pub moved_before : place + t < radius → moved_to n radius place t ≡ None
   unfolding moved_to
   moved_before h = rw (lt-leb radius (place + t) h)
 
-  pub moved_past : n ≤ place + t - radius → moved_to n radius place t ≡ Outside
+  pub moved_past : n ≤ place + t - radius → moved_to n radius place t ≡ None
   unfolding moved_to
   moved_past h = rw (le-ltb (place + t - radius) n h) (go (leb radius (place + t)))
     where
-      go : (b : Bool) → cond (b && false) (At (place + t - radius)) Outside ≡ Outside
+      go : (b : Bool) → cond (b && false) (Some (place + t - radius)) None ≡ None
       go true = refl
       go false = refl
 
   -- ---- and back
 
-  pub inside_moved : {p : ℕ} → moved_to n radius place t ≡ At p → (radius ≤ place + t) × (place + t - radius ≡ p) × (p < n)
+  pub inside_moved : {p : ℕ} → moved_to n radius place t ≡ Some p → (radius ≤ place + t) × (place + t - radius ≡ p) × (p < n)
   unfolding moved_to
   inside_moved {p} e = go (leb radius (place + t)) (ltb (place + t - radius) n) refl refl e
     where
-      go : (a b : Bool) → leb radius (place + t) ≡ a → ltb (place + t - radius) n ≡ b → cond (a && b) (At (place + t - radius)) Outside ≡ At p
+      go : (a b : Bool) → leb radius (place + t) ≡ a → ltb (place + t - radius) n ≡ b → cond (a && b) (Some (place + t - radius)) None ≡ Some p
           → (radius ≤ place + t) × (place + t - radius ≡ p) × (p < n)
       go true true a b e =
           let is : place + t - radius ≡ p = cc in
@@ -43,11 +42,11 @@ module _ (n radius place t : ℕ) where
       go true false a b e = let z : ◌≡◌ {A = ℕ} 0 1 = cc in absurd (omega arith)
       go false b a h e = let z : ◌≡◌ {A = ℕ} 0 1 = cc in absurd (omega arith)
 
-  pub outside_moved : moved_to n radius place t ≡ Outside → (place + t < radius) ⊎ (n ≤ place + t - radius)
+  pub outside_moved : moved_to n radius place t ≡ None → (place + t < radius) ⊎ (n ≤ place + t - radius)
   unfolding moved_to
   outside_moved e = go (leb radius (place + t)) (ltb (place + t - radius) n) refl refl e
     where
-      go : (a b : Bool) → leb radius (place + t) ≡ a → ltb (place + t - radius) n ≡ b → cond (a && b) (At (place + t - radius)) Outside ≡ Outside
+      go : (a b : Bool) → leb radius (place + t) ≡ a → ltb (place + t - radius) n ≡ b → cond (a && b) (Some (place + t - radius)) None ≡ None
           → (place + t < radius) ⊎ (n ≤ place + t - radius)
       go true true a b e = let z : ◌≡◌ {A = ℕ} 0 1 = cc in absurd (omega arith)
       go true false a b e = inr (ltb-false (place + t - radius) n b)
@@ -57,6 +56,6 @@ module _ (n radius place t : ℕ) where
 pub moved_reach : (n radius place t first stride len room : ℕ) → ((p : ℕ) → p < n → first + p * stride + len ≤ room) → Reach first stride len room (moved_to n radius place t)
 moved_reach n radius place t first stride len room all = go (moved_to n radius place t) (λ p e. (inside_moved n radius place t e).2)
   where
-    go : (l : Place) → ((p : ℕ) → l ≡ At p → p < n) → Reach first stride len room l
-    go (At p) h = all p (h p refl)
-    go Outside h = tt
+    go : (l : Option ℕ) → ((p : ℕ) → l ≡ Some p → p < n) → Reach first stride len room l
+    go (Some p) h = all p (h p refl)
+    go None h = tt

@@ -1,5 +1,8 @@
 -- No second outcome fits: each public function, in the order of the sources. Assumes nothing.
 use mathlib.Core.Path.{◌≡◌, refl}
+use package.contract.Lifetimes.{Lfts}
+use denote.Triple.Entry.{Args, Res}
+use denote.Triple.Clauses.{AtExit}
 use Rattle.lists.specs.OneOutcome.{OneOutcome}
 use Rattle.lists.specs.Laws.OneAnswer.{same, ◌&◌}
 use Rattle.blur.specs.declared.kernel.Kernel.{Kernel}
@@ -12,7 +15,7 @@ by_parts radius weights = λ i. record { radius = radius i; weights = weights i 
 -- ---- lib.rt
 
 pub blur_all : OneOutcome contract.blur_all.ended fn.blur_all.Reads.Post
-blur_all κs args o o' p q = refl & refl & refl & refl & same p.1 q.1 & same p.0 q.0 & refl
+blur_all κs args o o' p q = refl & refl & refl & same p.1 q.1 & same p.0 q.0 & refl
 
 -- ---- blur.rt
 
@@ -29,3 +32,9 @@ kernel_radius_of κs args o o' p q = same p q & refl
 
 pub kernel_new : OneOutcome contract.kernel.Kernel.new.ended fn.kernel.Kernel.new.Reads.Post
 kernel_new κs args o o' p q = by_parts (same p.reach q.reach) (same p.all q.all) & refl
+
+-- a slice is lent, and where it lies is no part of the answer: what stands in it is
+pub kernel_weights : (κs : Lfts contract.kernel.Kernel.weights.ended.signature.lifetimes) (args : Args contract.kernel.Kernel.weights.ended.signature κs)
+    (a b : Res contract.kernel.Kernel.weights.ended.signature κs) (end : AtExit contract.kernel.Kernel.weights.ended κs)
+    → fn.kernel.Kernel.weights.Reads.Post κs args a end → fn.kernel.Kernel.weights.Reads.Post κs args b end → a.now ≡ b.now
+kernel_weights κs args a b end p q = same p q

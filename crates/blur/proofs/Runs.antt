@@ -13,7 +13,7 @@ use Rattle.lists.specs.Lists.{tabulate, at, part}
 use Rattle.lists.specs.Laws.Order.{lt_or_le}
 use Rattle.lists.specs.Laws.Tabulate.{length_tabulate, at_tabulate, tabulate_by, tabulate_ext, tabulate_self}
 use Rattle.lists.specs.Laws.Part.{length_part, part_at, put_length, put_before, put_in, put_after}
-use Rattle.blur.specs.declared.blur.Place.TheVariants.{At, Outside}
+use Rattle.std.specs.Prelude.{Some, None}
 use Rattle.blur.specs.Blur.{moved_to, with_term}
 use Rattle.blur.specs.Words.{plus_times, FirstOutside}
 use Rattle.blur.proofs.Moved.{moved_inside, moved_before, moved_past, inside_moved, outside_moved}
@@ -55,7 +55,7 @@ module _ (out v : List Float) (w : Float) (radius t : ℕ) where
   with_offset k = with_term v (λ p. p) w (moved_to (length out) radius k t) (at out k)
 
   -- the first node is led to place p
-  pub run_ahead : (p e : ℕ) {ys : List Float} → moved_to (length out) radius 0 t ≡ At p → e ≡ length out - p
+  pub run_ahead : (p e : ℕ) {ys : List Float} → moved_to (length out) radius 0 t ≡ Some p → e ≡ length out - p
       → ys ≡ tabulate (length (part 0 e out)) (plus_times w (part 0 e out) (part p (length out) v))
       → put_mid 0 (e - 0) out ys ≡ tabulate (length out) with_offset
   run_ahead p e first end is =
@@ -67,7 +67,7 @@ module _ (out v : List Float) (w : Float) (radius t : ℕ) where
       (λ k low h. term_outside v (λ p. p) w (at out k) (moved_past n radius k t (omega arith)))
 
   -- the first node is led outside, and the last to place p
-  pub run_back : (p a e : ℕ) {ys : List Float} → FirstOutside (length out) radius t → moved_to (length out) radius (length out - 1) t ≡ At p → a ≡ length out - 1 - p → e ≡ p + 1
+  pub run_back : (p a e : ℕ) {ys : List Float} → FirstOutside (length out) radius t → moved_to (length out) radius (length out - 1) t ≡ Some p → a ≡ length out - 1 - p → e ≡ p + 1
       → ys ≡ tabulate (length (part a (length out) out)) (plus_times w (part a (length out) out) (part 0 e v))
       → put_mid a (length out - a) out ys ≡ tabulate (length out) with_offset
   run_back p a e none last from to is =
@@ -80,7 +80,7 @@ module _ (out v : List Float) (w : Float) (radius t : ℕ) where
       (λ k low h. absurd (omega arith))
 
   -- both are led outside, and so are all between them
-  pub run_none : FirstOutside (length out) radius t → moved_to (length out) radius (length out - 1) t ≡ Outside → out ≡ tabulate (length out) with_offset
+  pub run_none : FirstOutside (length out) radius t → moved_to (length out) radius (length out - 1) t ≡ None → out ≡ tabulate (length out) with_offset
   run_none none last =
       let n = length out in
       tabulate_self nan out

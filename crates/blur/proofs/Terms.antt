@@ -11,20 +11,19 @@ use lib.Ieee.{Float, nan, binary32, add, mul}
 use Rattle.lists.specs.Lists.{tabulate, at, part, zeros32, zero32}
 use Rattle.lists.specs.Laws.Tabulate.{length_tabulate, at_tabulate, tabulate_ext, tabulate_self, tabulate_same}
 use Rattle.lists.specs.Laws.Part.{part_at}
-use Rattle.blur.specs.declared.blur.Place.{Place}
-use Rattle.blur.specs.declared.blur.Place.TheVariants.{At, Outside}
+use Rattle.std.specs.Prelude.{Option, Some, None}
 use Rattle.blur.specs.Blur.{moved_to, with_term, blur_to}
 use Rattle.blur.specs.Words.{plus_times, across}
 
 -- ---- one term
 
-pub term_at : (v : List Float) (line : ℕ → ℕ) (w s : Float) {l : Place} {p : ℕ} → l ≡ At p → with_term v line w l s ≡ add binary32 s (mul binary32 w (at v (line p)))
+pub term_at : (v : List Float) (line : ℕ → ℕ) (w s : Float) {l : Option ℕ} {p : ℕ} → l ≡ Some p → with_term v line w l s ≡ add binary32 s (mul binary32 w (at v (line p)))
 unfolding with_term
-term_at v line w s e = ap (λ (l : Place). with_term v line w l s) e
+term_at v line w s e = ap (λ (l : Option ℕ). with_term v line w l s) e
 
-pub term_outside : (v : List Float) (line : ℕ → ℕ) (w s : Float) {l : Place} → l ≡ Outside → with_term v line w l s ≡ s
+pub term_outside : (v : List Float) (line : ℕ → ℕ) (w s : Float) {l : Option ℕ} → l ≡ None → with_term v line w l s ≡ s
 unfolding with_term
-term_outside v line w s e = ap (λ (l : Place). with_term v line w l s) e
+term_outside v line w s e = ap (λ (l : Option ℕ). with_term v line w l s) e
 
 -- ---- the sums of a row
 
@@ -33,7 +32,7 @@ module _ (v kernel : List Float) (n radius len : ℕ) (line : ℕ → ℕ → �
   unfolding blur_to
   blur_none = sym (tabulate_same len zero32)
 
-  pub blur_more : (t : ℕ) {out last : List Float} (l : ℕ → Place) → out ≡ tabulate len (λ k. blur_to v (line k) n (place k) radius kernel t)
+  pub blur_more : (t : ℕ) {out last : List Float} (l : ℕ → Option ℕ) → out ≡ tabulate len (λ k. blur_to v (line k) n (place k) radius kernel t)
       → ((k : ℕ) → length out ≡ len → l k ≡ moved_to n radius (place k) t)
       → last ≡ tabulate (length out) (λ k. with_term v (line k) (at kernel t) (l k) (at out k))
       → last ≡ tabulate len (λ k. blur_to v (line k) n (place k) radius kernel (t + 1))
@@ -45,7 +44,7 @@ module _ (v kernel : List Float) (n radius len : ℕ) (line : ℕ → ℕ → �
       ∙ ap (λ (m : ℕ). tabulate m (λ k. with_term v (line k) (at kernel t) (l k) (at out k))) size
       ∙ tabulate_ext len _ (λ k. blur_to v (line k) n (place k) radius kernel (suc t))
       (λ k h.
-      ap (λ (c : Place). with_term v (line k) (at kernel t) c (at out k)) (led k size)
+      ap (λ (c : Option ℕ). with_term v (line k) (at kernel t) c (at out k)) (led k size)
       ∙ ap (λ (s : Float). with_term v (line k) (at kernel t) (moved_to n radius (place k) t) s) (ap (λ (y : List Float). at y k) e ∙ at_tabulate nan len f k h))
       ∙ ap (λ (m : ℕ). tabulate len (λ k. blur_to v (line k) n (place k) radius kernel m)) (sym (add-one t))
 
@@ -55,8 +54,8 @@ blur_done f {len} {size} {t} {all} e l h = e ∙ ap (λ (m : ℕ). tabulate m (�
 
 -- ---- a row whose lines run across it
 
-module _ (v out : List Float) (first stride : ℕ) (w : Float) {place : Place} where
-  pub across_at : (p e : ℕ) → place ≡ At p → e ≡ first + p * stride + length out
+module _ (v out : List Float) (first stride : ℕ) (w : Float) {place : Option ℕ} where
+  pub across_at : (p e : ℕ) → place ≡ Some p → e ≡ first + p * stride + length out
       → tabulate (length out) (plus_times w out (part (first + p * stride) e v)) ≡ tabulate (length out) (λ k. with_term v (across first stride k) w place (at out k))
   across_at p e is end =
       tabulate_ext (length out) (plus_times w out (part (first + p * stride) e v)) (λ k. with_term v (across first stride k) w place (at out k))
@@ -65,5 +64,5 @@ module _ (v out : List Float) (first stride : ℕ) (w : Float) {place : Place} w
       ap (λ (z : Float). add binary32 (at out k) (mul binary32 w z)) (part_at nan (first + p * stride) e v k (omega arith) ∙ ap (at v) same)
       ∙ sym (term_at v (across first stride k) w (at out k) is))
 
-  pub across_outside : place ≡ Outside → out ≡ tabulate (length out) (λ k. with_term v (across first stride k) w place (at out k))
+  pub across_outside : place ≡ None → out ≡ tabulate (length out) (λ k. with_term v (across first stride k) w place (at out k))
   across_outside is = tabulate_self nan out ∙ tabulate_ext (length out) (at out) _ (λ k h. sym (term_outside v (across first stride k) w (at out k) is))

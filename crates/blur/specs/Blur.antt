@@ -1,6 +1,6 @@
 -- Document 01, "Field", its blur: sigma, radius and weights, one pass of the blur along an axis, and all three.
 -- All values at the nodes are f32; n is the number of nodes per side, and N = n * n * n. Definitions only; assumes nothing.
-use Rattle.std.specs.Prelude.{◌&&◌, cond, List, ℕ, zero, suc, ◌+◌, ◌-◌, ◌*◌, pos, leb, ltb, Float}
+use Rattle.std.specs.Prelude.{◌&&◌, cond, List, ℕ, zero, suc, ◌+◌, ◌-◌, ◌*◌, pos, leb, ltb, Option, Some, None, Float}
 use Rattle.std.specs.Float.{binary32, binary64}
 use Rattle.std.specs.Float.Ieee.{of_int, to_unsigned, add, mul, div}
 use Rattle.lists.specs.Lists.{tabulate, at, zero32, fold_to}
@@ -8,8 +8,6 @@ use Rattle.numbers.specs.Constants.{half64, two64, three64, six64}
 use Rattle.numbers.specs.Arithmetic.{ceiled, clamped, exp_neg}
 use Rattle.closed.specs.Grid.{node}
 use Rattle.grid.specs.Grid.{digit_i, digit_j, digit_k}
-use Rattle.blur.specs.declared.blur.Place.{Place}
-use Rattle.blur.specs.declared.blur.Place.TheVariants.{At, Outside}
 
 -- ---- sigma, radius, weights
 
@@ -39,9 +37,9 @@ kernel_of sigma = tabulate (offset_count (radius_of sigma)) (λ t. weight_of sig
 
 -- ---- the blur along one axis: 0, 1 or 2
 
--- the place that lies offset t - radius from a place on a side of n nodes; it is outside before the first node and past the last
-unfoldable pub moved_to : (n radius place t : ℕ) → Place
-moved_to n radius place t = cond (leb radius (place + t) && ltb (place + t - radius) n) (At (place + t - radius)) Outside
+-- the place that lies offset t - radius from a place on a side of n nodes; none before the first node and past the last
+unfoldable pub moved_to : (n radius place t : ℕ) → Option ℕ
+moved_to n radius place t = cond (leb radius (place + t) && ltb (place + t - radius) n) (Some (place + t - radius)) None
 
 -- node q's place along the axis
 abbrev pub place_along : (axis n q : ℕ) → ℕ
@@ -55,10 +53,10 @@ line_node zero n q p = node n n p (digit_j n n q) (digit_k n q)
 line_node (suc zero) n q p = node n n (digit_i n n q) p (digit_k n q)
 line_node (suc (suc a)) n q p = node n n (digit_i n n q) (digit_j n n q) p
 
--- the sum s with one term more, weight·value; an outside term is skipped. The line says which node stands at a place
-unfoldable pub with_term : (v : List Float) (line : ℕ → ℕ) (w : Float) → Place → (s : Float) → Float
-with_term v line w (At p) s = add binary32 s (mul binary32 w (at v (line p)))
-with_term v line w Outside s = s
+-- the sum s with one term more, weight·value; a term with no place is skipped. The line says which node stands at a place
+unfoldable pub with_term : (v : List Float) (line : ℕ → ℕ) (w : Float) → Option ℕ → (s : Float) → Float
+with_term v line w (Some p) s = add binary32 s (mul binary32 w (at v (line p)))
+with_term v line w None s = s
 
 -- the terms of the first t offsets, in f32 from +0.0; nothing is divided by the weights
 unfoldable pub blur_to : (v : List Float) (line : ℕ → ℕ) (n place radius : ℕ) (kernel : List Float) (t : ℕ) → Float

@@ -1,12 +1,24 @@
--- Words for contracts: one element of a row, what a row reads, and a kernel with room to spare. No definition rests on them; callers see `KernelOf` alone.
-use Rattle.std.specs.Prelude.{◌≡◌, List, ℕ, ◌+◌, ◌*◌, ◌≤◌, length, Float}
+-- Words for contracts: what a slice of weights is, one element of a row, what a row reads, and a kernel with room to spare. No definition rests on them;
+-- callers see `radius_in`, `IsKernel` and `KernelOf` alone.
+use Rattle.std.specs.Prelude.{◌≡◌, List, ℕ, ◌+◌, ◌*◌, ◌/◌, ◌≤◌, length, Option, Some, None, Float}
 use Rattle.std.specs.Float.{binary32}
 use Rattle.std.specs.Float.Ieee.{add, mul}
 use Rattle.lists.specs.Lists.{at, zero32, padded}
-use Rattle.blur.specs.declared.blur.Place.{Place}
-use Rattle.blur.specs.declared.blur.Place.TheVariants.{At, Outside}
 use Rattle.blur.specs.declared.kernel.Kernel.{Kernel}
-use Rattle.blur.specs.Blur.{radius_of, kernel_of, moved_to}
+use Rattle.blur.specs.Blur.{radius_of, kernel_of, offset_count, moved_to, blur_to}
+
+-- weights alone say how far they reach: to each side of the middle one
+abbrev pub radius_in : (kernel : List Float) → ℕ
+radius_in kernel = length kernel / 2
+
+-- one weight for each offset, and no more offsets than the widest blur has
+pub record IsKernel (kernel : List Float) : Type 0 where
+  pub odd : length kernel ≡ offset_count (radius_in kernel)
+  pub most : radius_in kernel ≤ 18
+
+-- the sum of all the terms of a kernel, at a place of a line
+abbrev pub blur_by : (v : List Float) (line : ℕ → ℕ) (n place : ℕ) (kernel : List Float) → Float
+blur_by v line n place kernel = blur_to v line n place (radius_in kernel) kernel (offset_count (radius_in kernel))
 
 -- x[k] + w * p[k]
 abbrev pub plus_times : (w : Float) (x p : List Float) (k : ℕ) → Float
@@ -17,13 +29,13 @@ abbrev pub across : (first stride k p : ℕ) → ℕ
 across first stride k p = first + k + p * stride
 
 -- a row of `len` elements at a place lies within `room` elements
-abbrev pub Reach : (first stride len room : ℕ) → Place → Type 0
-Reach first stride len room (At p) = first + p * stride + len ≤ room
-Reach first stride len room Outside = Unit {0}
+abbrev pub Reach : (first stride len room : ℕ) → Option ℕ → Type 0
+Reach first stride len room (Some p) = first + p * stride + len ≤ room
+Reach first stride len room None = Unit {0}
 
 -- offset t - radius leads the first node of a side of n nodes outside
 abbrev pub FirstOutside : (n radius t : ℕ) → Type 0
-FirstOutside n radius t = moved_to n radius 0 t ≡ Outside
+FirstOutside n radius t = moved_to n radius 0 t ≡ None
 
 -- a kernel's radius and weights are sigma's; behind them its array is filled up with +0.0
 pub record KernelOf (sigma : Float) (k : Kernel) : Type 0 where

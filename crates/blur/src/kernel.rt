@@ -1,6 +1,6 @@
 // The blur's width and its weights, one for each offset; in the Rust they stand in `vector_field` and `blur_axis`.
-ghost use Rattle.std.specs.Prelude.{◌≡◌, ◌≤◌};
-ghost use Rattle.blur.specs.Blur.{sigma_of, radius_of, weight_of, reach_of};
+ghost use Rattle.std.specs.Prelude.{◌≡◌, ◌≤◌, take};
+ghost use Rattle.blur.specs.Blur.{sigma_of, radius_of, weight_of, reach_of, offset_count};
 ghost use Rattle.blur.specs.Words.{KernelOf};
 
 // How far the blur reaches, and its weights from minus the radius to the radius; behind them the array holds +0.0, and is not read.
@@ -55,11 +55,18 @@ impl Kernel {
     {
         let radius = Kernel::radius_of(sigma);
         let mut weights = [0.0; 37];
-        let mut t = 0usize;
-        while t < radius + radius + 1 {
+        for t in 0..radius + radius + 1 {
             weights[t] = weight(sigma, radius, t);
-            t += 1;
         }
         Kernel { radius, weights }
+    }
+
+    // The weights of its offsets, without what stands behind them.
+    pub fn weights(&self) -> &[f32]
+        requires { self.now.radius ≤ 18 }
+        ensures { result.now ≡ take (offset_count self.now.radius) self.now.weights }
+    {
+        let count = self.radius + self.radius + 1;
+        &self.weights[..count]
     }
 }

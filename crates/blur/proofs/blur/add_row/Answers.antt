@@ -4,8 +4,8 @@ use Rattle.std.proofs.Common.{refl, ◌∙◌}
 use Rattle.blur.proofs.Terms.{across_at, across_outside}
 use Rattle.blur.proofs.blur.add_row.Goals as goal
 
-pub returns-in-At : goal.returns-in-At
-returns-in-At c = c.add_times.ensures ∙ across_at c.args.v.now c.args.out.now c.args.first.0 c.args.stride c.args.w c.in-At.p _ c.in-At.is refl
+pub returns-in-Some : goal.returns-in-Some
+returns-in-Some c = c.add_times.ensures ∙ across_at c.args.v.now c.args.out.now c.args.first.0 c.args.stride c.args.w c.in-Some.p _ c.in-Some.is refl
 
-pub returns-in-Outside : goal.returns-in-Outside
-returns-in-Outside c = across_outside c.args.v.now c.args.out.now c.args.first.0 c.args.stride c.args.w c.in-Outside.is
+pub returns-in_default : goal.returns-in_default
+returns-in_default c = across_outside c.args.v.now c.args.out.now c.args.first.0 c.args.stride c.args.w c.in_default.is

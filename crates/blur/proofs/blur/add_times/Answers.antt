@@ -6,10 +6,10 @@ use Rattle.lists.specs.Laws.Fill.{filled_none, filled_more, filled_now, filled_d
 use Rattle.blur.proofs.blur.add_times.Goals as goal
 
 pub loop-k-init : goal.loop-k-init
-loop-k-init c = filled_none
+loop-k-init c = (filled_none, refl)
 
 pub loop-k-preserved : goal.loop-k-preserved
-loop-k-preserved c = filled_more c.loop-k.invariant (omega arith) (rw (filled_now nan c.loop-k.invariant))
+loop-k-preserved c = (filled_more c.loop-k.invariant.0 (omega arith) (rw (filled_now nan c.loop-k.invariant.0)), refl)
 
 pub returns : goal.returns
-returns c = filled_done c.loop-k.invariant refl (omega arith)
+returns c = filled_done c.loop-k.invariant.0 refl (omega arith)

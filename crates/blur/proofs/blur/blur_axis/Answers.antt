@@ -8,14 +8,14 @@ use Rattle.blur.specs.Laws.Within.{Within, within_cube}
 use Rattle.blur.proofs.blur.blur_axis.Goals as goal
 
 pub loop-row-init : goal.loop-row-init
-loop-row-init c = (rw zero-mul filled_none, omega arith)
+loop-row-init c = (rw zero-mul filled_none, refl)
 
 pub loop-row-preserved : goal.loop-row-preserved
 loop-row-preserved c =
     let within : Within c.args.g.nodes c.loop-row.row = within_cube c.args.g.nodes c.loop-row.row c.requires.0.most c.loop-row-test.true in
     let n = c.args.g.nodes in
     let w = within in
-    (rw row_next (filled_part (c.loop-row.row * n + n) c.loop-row.invariant.0 c.blur_row.ensures refl (omega arith) (λ k h. refl)), omega arith)
+    (rw row_next (filled_part (c.loop-row.row * n + n) c.loop-row.invariant.0 c.blur_row.ensures refl (omega arith) (λ k h. refl)), refl)
 
 pub returns : goal.returns
 returns c =

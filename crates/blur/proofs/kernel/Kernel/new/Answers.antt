@@ -1,6 +1,6 @@
 -- `blur::kernel::Kernel::new` meets its contract. The loop's invariant: the weights of the first t offsets, filled up with +0.0.
 -- Assumes nothing.
-use Rattle.std.proofs.Common.{◌≡◌, sym, ap, ◌∙◌, [], ◌∷◌, ◌++◌, ℕ, length-set, Float, arith}
+use Rattle.std.proofs.Common.{◌≡◌, refl, sym, ap, ◌∙◌, [], ◌∷◌, ◌++◌, ℕ, length-set, Float, arith}
 use Rattle.std.proofs.Math.ListN.{length-replicate}
 use Rattle.lists.specs.Lists.{tabulate, padded, zero32}
 use Rattle.lists.specs.Laws.Tabulate.{length_tabulate, tabulate_snoc}
@@ -10,7 +10,7 @@ use Rattle.blur.proofs.kernel.Kernel.new.Goals as goal
 
 pub loop-t-init : goal.loop-t-init
 unfolding tabulate
-loop-t-init c = (padded_none zero32 37, length-replicate 37 zero32, omega arith)
+loop-t-init c = (padded_none zero32 37, length-replicate 37 zero32, refl)
 
 pub loop-t-preserved : goal.loop-t-preserved
 loop-t-preserved c =
@@ -18,7 +18,7 @@ loop-t-preserved c =
       padded_more zero32 37 (tabulate c.loop-t.t f) c.weight.result c.loop-t.invariant.0 (length_tabulate c.loop-t.t f) (omega arith)
           ∙ ap (padded zero32 37) (ap (λ (w : Float). tabulate c.loop-t.t f ++ (w ∷ [])) c.weight.ensures ∙ sym (tabulate_snoc c.loop-t.t f)),
       length-set c.loop-t.weights _ _ ∙ c.loop-t.invariant.1,
-      omega arith,
+      refl,
     )
 
 pub returns : goal.returns
