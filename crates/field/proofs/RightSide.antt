@@ -4,10 +4,9 @@ use mathlib.Core.Path.{◌≡◌, sym, ap, ◌∙◌}
 use mathlib.Core.Bool.{Bool, true, false, ◌||◌, cond}
 use mathlib.Core.List.{List}
 use Prim.Native.Nat.{ℕ, ◌+◌, ◌*◌, ◌<◌}
-use native.Mathlib.Nat.{sub-zero}
 use lib.ListN.{take}
 use lib.Ieee.{Float}
-use Rattle.lists.specs.Lists.{tabulate, part, zero32, zeros32}
+use Rattle.lists.specs.Lists.{tabulate, zero32, zeros32}
 use Rattle.lists.specs.Laws.Tabulate.{tabulate_same}
 use Rattle.grid.specs.Grid.{at_end, boundary_row}
 use Rattle.grid.specs.Laws.Rows.{boundary_row_lem, no_end}
@@ -15,8 +14,8 @@ use Rattle.grid.specs.declared.Grid.{Grid}
 use Rattle.points.specs.declared.point.Point.{Point}
 use Rattle.blur.specs.declared.kernel.Kernel.{Kernel}
 use Rattle.blur.specs.Blur.{sigma_of, radius_of, offset_count, kernel_of}
-use Rattle.blur.specs.Words.{KernelOf}
-use Rattle.blur.specs.Laws.FirstWeights.{first_weights}
+use Rattle.blur.specs.Words.{radius_in, KernelOf}
+use Rattle.blur.specs.Laws.FirstWeights.{first_weights, front_radius}
 use Rattle.field.specs.Field.{right_side_at, right_side_by, right_side}
 use Rattle.field.specs.Words.{inner_at, row_at}
 
@@ -54,13 +53,13 @@ module _ (n : ℕ) (h : Float) (x y z : List Float) where
 pub side_of_lem : (n : ℕ) (h : Float) {x y z x' y' z' : List Float} → x ≡ x' → y ≡ y' → z ≡ z' → tabulate (n * n * n) (right_side_at n h x y z) ≡ tabulate (n * n * n) (right_side_at n h x' y' z')
 side_of_lem n h e f g = cc
 
--- the kernel as it is made, read as a part of its array, is sigma's
-pub by_kernel : (g : Grid) (ps : List Point) (spacing smoothing : Float) {sigma : Float} {k : Kernel} {b : List Float} → sigma ≡ sigma_of smoothing spacing g.step → KernelOf sigma k
-    → b ≡ right_side_by g ps k.radius (part 0 (offset_count k.radius) k.weights) → b ≡ right_side g ps spacing smoothing
+-- the kernel as it is made, read at the front of its array, is sigma's
+pub by_kernel : (g : Grid) (ps : List Point) (spacing smoothing : Float) {sigma : Float} {k : Kernel} {w b : List Float} → sigma ≡ sigma_of smoothing spacing g.step → KernelOf sigma k
+    → w ≡ take (offset_count k.radius) k.weights → b ≡ right_side_by g ps (radius_in w) w → b ≡ right_side g ps spacing smoothing
 unfolding right_side
-by_kernel g ps spacing smoothing {sigma} {k} e made is =
+by_kernel g ps spacing smoothing {sigma} {k} {w} e made front is =
     is
-    ∙ ap (λ (m : ℕ). right_side_by g ps k.radius (take m k.weights)) (sub-zero (offset_count k.radius))
-    ∙ ap (λ (l : List Float). right_side_by g ps k.radius l) (first_weights made)
+    ∙ ap (λ (r : ℕ). right_side_by g ps r w) (front_radius made front)
+    ∙ ap (λ (l : List Float). right_side_by g ps k.radius l) (front ∙ first_weights made)
     ∙ ap (λ (r : ℕ). right_side_by g ps r (kernel_of sigma)) made.reach
     ∙ ap (λ (s : Float). right_side_by g ps (radius_of s) (kernel_of s)) e

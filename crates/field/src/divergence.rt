@@ -43,12 +43,10 @@ fn inner_row(b: &mut [f32], x: &[f32], y: &[f32], z: &[f32], first: Node, h: f32
 {
     let n = b.len();
     b[0] = 0.0;
-    let mut k = 1usize;
-    while k < n - 1 {
+    for k in 1..n - 1 {
         b[k] = inner(x, y, z, first.after(k), n, h);
-        k += 1;
     }
-    b[k] = 0.0;
+    b[n - 1] = 0.0;
 }
 
 // A row, which may be on the boundary as a whole.
@@ -80,8 +78,7 @@ pub fn divergence(g: Grid, x: &[f32], y: &[f32], z: &[f32], b: &mut [f32])
 {
     let n = g.nodes;
     let h = arith::narrow(g.step);
-    let mut row = 0usize;
-    while row < n * n {
+    for row in 0..n * n {
         let a = row * n;
         let e = a + n;
         any_row(
@@ -93,6 +90,5 @@ pub fn divergence(g: Grid, x: &[f32], y: &[f32], z: &[f32], b: &mut [f32])
             h,
             g.boundary_row(row),
         );
-        row += 1;
     }
 }

@@ -6,11 +6,11 @@
 mod divergence;
 mod splat;
 
-ghost use Rattle.std.specs.Prelude.{◌≡◌, ◌<◌, ◌≤◌, length};
+ghost use Rattle.std.specs.Prelude.{◌≡◌, ◌<◌, length};
 ghost use Rattle.lists.specs.Lists.{zeros32};
 ghost use Rattle.grid.specs.Grid.{Sides, all_nodes};
 ghost use Rattle.points.specs.Points.{usables};
-ghost use Rattle.blur.specs.Blur.{offset_count};
+ghost use Rattle.blur.specs.Words.{radius_in, IsKernel};
 ghost use Rattle.field.specs.Field.{component_of, right_side_by, right_side};
 
 use blur::Kernel;
@@ -21,21 +21,19 @@ fn component(
     points: &[f32],
     g: Grid,
     kernel: &[f32],
-    radius: usize,
     a: usize,
     s: &mut [f32],
     out: &mut [f32],
 )
     requires { Sides g.nodes
-        × (radius ≤ 18)
-        × (length kernel.now ≡ offset_count radius)
+        × IsKernel kernel.now
         × (a < 3)
         × (length s.old ≡ all_nodes g)
         × (length out.old ≡ all_nodes g) }
-    ensures { out.new ≡ component_of g (usables points.now) radius kernel.now a }
+    ensures { out.new ≡ component_of g (usables points.now) (radius_in kernel.now) kernel.now a }
 {
     splat::splat(g, points, a, s);
-    blur::blur_all(g, kernel, radius, s, out);
+    blur::blur_all(g, kernel, s, out);
 }
 
 // The right side, with the blur's weights at hand. x, y and z take the components.
@@ -43,7 +41,6 @@ fn right_side_by(
     points: &[f32],
     g: Grid,
     kernel: &[f32],
-    radius: usize,
     b: &mut [f32],
     s: &mut [f32],
     x: &mut [f32],
@@ -51,18 +48,17 @@ fn right_side_by(
     z: &mut [f32],
 )
     requires { Sides g.nodes
-        × (radius ≤ 18)
-        × (length kernel.now ≡ offset_count radius)
+        × IsKernel kernel.now
         × (length b.old ≡ all_nodes g)
         × (length s.old ≡ all_nodes g)
         × (length x.old ≡ all_nodes g)
         × (length y.old ≡ all_nodes g)
         × (length z.old ≡ all_nodes g) }
-    ensures { b.new ≡ right_side_by g (usables points.now) radius kernel.now }
+    ensures { b.new ≡ right_side_by g (usables points.now) (radius_in kernel.now) kernel.now }
 {
-    component(points, g, kernel, radius, 0, s, x);
-    component(points, g, kernel, radius, 1, s, y);
-    component(points, g, kernel, radius, 2, s, z);
+    component(points, g, kernel, 0, s, x);
+    component(points, g, kernel, 1, s, y);
+    component(points, g, kernel, 2, s, z);
     divergence::divergence(g, x, y, z, b);
 }
 
@@ -91,12 +87,9 @@ pub fn right_side(
         × (z.new ≡ zeros32 (all_nodes g)) }
 {
     let kernel = Kernel::new(Kernel::sigma(smoothing, spacing, g.step));
-    let radius = kernel.radius;
-    let weights = kernel.weights;
-    let count = radius + radius + 1;
-    right_side_by(points, g, &weights[0..count], radius, b, s, x, y, z);
-    lists::clear(s);
-    lists::clear(x);
-    lists::clear(y);
-    lists::clear(z);
+    right_side_by(points, g, kernel.weights(), b, s, x, y, z);
+    lists::clear_f32(s);
+    lists::clear_f32(x);
+    lists::clear_f32(y);
+    lists::clear_f32(z);
 }

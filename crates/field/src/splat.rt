@@ -24,10 +24,8 @@ fn add_point(v: &mut [f32], g: Grid, p: Point, a: usize)
     let cell = g.cell(p.place());
     let unit = p.unit();
     let u = unit[a];
-    let mut c = 0usize;
-    while c < 8 {
+    for c in 0..8 {
         add_corner(v, g, cell, u, c);
-        c += 1;
     }
 }
 
@@ -46,11 +44,8 @@ pub fn splat(g: Grid, points: &[f32], a: usize, v: &mut [f32])
     requires { Sides g.nodes × (length v.old ≡ all_nodes g) × (a < 3) }
     ensures { v.new ≡ splatted g (usables points.now) a }
 {
-    lists::clear(v);
-    let all = Point::given(points);
-    let mut i = 0usize;
-    while i < all {
+    lists::clear_f32(v);
+    for i in 0..Point::given(points) {
         add_usable(v, g, Point::read(points, i), a);
-        i += 1;
     }
 }

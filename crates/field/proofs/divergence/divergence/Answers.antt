@@ -1,6 +1,6 @@
 -- `field::divergence::divergence` meets its contract. The loop's invariant: `b` is what came with its first rows written.
 -- Assumes nothing.
-use Rattle.std.proofs.Common.{◌≡◌, sym, ap, ◌∙◌, subst, ℕ, ◌≤◌, ◌+◌, ◌*◌, zero-mul, length, Float, arith}
+use Rattle.std.proofs.Common.{◌≡◌, refl, sym, ap, ◌∙◌, subst, ℕ, ◌≤◌, ◌+◌, ◌*◌, zero-mul, length, Float, arith}
 use Rattle.lists.specs.Lists.{tabulate, part}
 use Rattle.lists.specs.Laws.Fill.{filled_none, filled_done}
 use Rattle.lists.specs.Laws.Part.{length_part, filled_part}
@@ -12,7 +12,7 @@ use Rattle.field.proofs.RightSide.{row_at_lem}
 use Rattle.field.proofs.divergence.divergence.Goals as goal
 
 pub loop-row-init : goal.loop-row-init
-loop-row-init c = (rw zero-mul filled_none, omega arith)
+loop-row-init c = (rw zero-mul filled_none, refl)
 
 pub any_row-requires : goal.any_row-requires
 any_row-requires c =
@@ -35,7 +35,7 @@ loop-row-preserved c =
       rw row_next
           (filled_part (c.loop-row.row * n + n) c.loop-row.invariant.0 c.any_row.ensures (omega arith) (omega arith)
           (λ k lt. ap (λ (m : ℕ). row_at m c.narrow-h.result c.args.x.now c.args.y.now c.args.z.now c.row_start.result.0 c.boundary_row.result k) len ∙ row_at_lem n c.narrow-h.result c.args.x.now c.args.y.now c.args.z.now c.loop-row.row k (omega arith) c.row_start.ensures c.boundary_row.ensures)),
-      omega arith,
+      refl,
     )
 
 pub returns : goal.returns

@@ -6,7 +6,4 @@ use Rattle.field.specs.Words.{row_at}
 use Rattle.field.proofs.divergence.inner_row.Given as goal
 
 abbrev pub invariant-loop-k : goal.invariant-loop-k
-invariant-loop-k l = (take l.k l.b ≡ tabulate l.k (row_at l.n l.h l.x l.y l.z l.first.0 false)) × (length l.b ≡ l.n) × (1 ≤ l.k) × (l.k + 1 ≤ l.n)
-
-abbrev pub decreases-loop-k : goal.decreases-loop-k
-decreases-loop-k l = l.n - l.k
+invariant-loop-k l = (take l.k l.b ≡ tabulate l.k (row_at l.n l.h l.x l.y l.z l.first.0 false)) × (length l.b ≡ l.n) × (1 ≤ l.k) × (l.k + 1 ≤ l.n) × (l.k-end ≡ l.n - 1)
