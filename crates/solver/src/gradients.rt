@@ -7,14 +7,7 @@ ghost use Rattle.solver.specs.Words.{SolutionLeft, Updated, Turned};
 
 use grid::Grid;
 use laplacian::apply;
-use vectors::{advance, copy, dot, less, squares, xpay};
-
-// What a turn answers: that no later turn changes x, or to go on with this rr.
-#[derive(Clone, Copy)]
-pub enum Turn {
-    Done,
-    On(f64),
-}
+use vectors::{advance, dot, less, xpay};
 
 // The step by alpha: x, r, rr, beta and p, in this order. It answers the new rr.
 fn update(
@@ -36,7 +29,7 @@ fn update(
     rr_new
 }
 
-// One turn. A NaN stops neither test. But where alpha is NaN, the update makes x, r and p NaN at all nodes, and no later turn changes anything: so the
+// One turn. It answers the new rr, or none where no later turn changes x. A NaN stops neither test. But where alpha is NaN, the update makes x, r and p NaN at all nodes, and no later turn changes anything: so the
 // loop may be left then, and not before.
 fn one_turn(
     g: Grid,
@@ -46,25 +39,25 @@ fn one_turn(
     ap: &mut [f32],
     rr: f64,
     limit: f64,
-) -> Turn
+) -> Option<f64>
     requires { NodeSlices g x.old r.old p.old ap.old }
     ensures { Turned g limit (record { x = x.old; r = r.old; p = p.old; rr = rr }) result x.new r.new
         p.new }
 {
-    if arith::root(rr) <= limit {
-        return Turn::Done;
+    if arith::root64(rr) <= limit {
+        return None;
     }
     apply(g, p, ap);
     let pap = dot(g, p, ap);
     if pap <= 0.0 {
-        return Turn::Done;
+        return None;
     }
     let alpha = arith::narrow(rr / pap);
     let rr_new = update(g, x, r, p, ap, alpha, rr);
     if alpha != alpha {
-        return Turn::Done;
+        return None;
     }
-    Turn::On(rr_new)
+    Some(rr_new)
 }
 
 // At most cap turns.
@@ -82,18 +75,11 @@ fn turns(
     ensures { x.new ≡ (steps g limit cap (record { x = x.old; r = r.old; p = p.old; rr = start })).x }
 {
     let mut rr = start;
-    let mut i = 0usize;
-    while i < cap {
-        let turn = one_turn(g, x, r, p, ap, rr, limit);
-        match turn {
-            Turn::On(rr_new) => {
-                rr = rr_new;
-            }
-            Turn::Done => {
-                return;
-            }
-        }
-        i += 1;
+    for _ in 0..cap {
+        let Some(rr_new) = one_turn(g, x, r, p, ap, rr, limit) else {
+            return;
+        };
+        rr = rr_new;
     }
 }
 
@@ -105,8 +91,8 @@ fn begin(g: Grid, b: &[f32], x: &[f32], r: &mut [f32], p: &mut [f32], ap: &mut [
 {
     apply(g, x, ap);
     less(r, b, ap);
-    copy(p, r);
-    squares(g, r)
+    p.copy_from_slice(r);
+    dot(g, r, r)
 }
 
 // From x on, at most cap steps; a zero right side leaves x as it started. What is left in r, p and ap is of no use.
@@ -124,7 +110,7 @@ fn descend(
     requires b_len { length b.now ≡ all_nodes g }
     ensures { x.new ≡ conjugate g tolerance cap b.now x.old }
 {
-    let norm = arith::root(squares(g, b));
+    let norm = arith::root64(dot(g, b, b));
     if norm == 0.0 {
         return;
     }

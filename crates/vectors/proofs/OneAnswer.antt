@@ -8,9 +8,6 @@ use Rattle.vectors.proofs as fn
 pub dot : OneOutcome contract.dot.ended fn.dot.Reads.Post
 dot κs args o o' p q = same p q & refl
 
-pub squares : OneOutcome contract.squares.ended fn.squares.Reads.Post
-squares κs args o o' p q = same p q & refl
-
 pub advance : OneOutcome contract.advance.ended fn.advance.Reads.Post
 advance κs args o o' p q = cc (p.of_rr, q.of_rr, same p.of_r q.of_r) & refl & same p.of_x q.of_x & same p.of_r q.of_r & refl
 
@@ -19,6 +16,3 @@ xpay κs args o o' p q = refl & same p q & refl
 
 pub less : OneOutcome contract.less.ended fn.less.Reads.Post
 less κs args o o' p q = refl & same p q & refl
-
-pub copy : OneOutcome contract.copy.ended fn.copy.Reads.Post
-copy κs args o o' p q = refl & same p q & refl

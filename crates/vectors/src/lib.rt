@@ -22,19 +22,6 @@ pub fn dot(g: Grid, a: &[f32], b: &[f32]) -> f64
     s
 }
 
-// dot(a, a), with one read and one widening a node.
-pub fn squares(g: Grid, a: &[f32]) -> f64
-    requires { length a.now ≡ all_nodes g }
-    ensures { result ≡ dotted g a.now a.now }
-{
-    let mut s = 0.0f64;
-    for i in 0..a.len() {
-        let v = arith::widen(a[i]);
-        s = s + v * v;
-    }
-    s
-}
-
 // x becomes x + alpha·p and r becomes r - alpha·ap; it answers dot(r, r) of the new r. One pass for all three: that sum must run in order, and the rest
 // is done while it waits.
 pub fn advance(g: Grid, x: &mut [f32], r: &mut [f32], p: &[f32], ap: &[f32], alpha: f32) -> f64
@@ -69,15 +56,5 @@ pub fn less(r: &mut [f32], b: &[f32], ax: &[f32])
 {
     for i in 0..r.len() {
         r[i] = b[i] - ax[i];
-    }
-}
-
-// p becomes r.
-pub fn copy(p: &mut [f32], r: &[f32])
-    requires { length r.now ≡ length p.old }
-    ensures { p.new ≡ r.now }
-{
-    for i in 0..p.len() {
-        p[i] = r[i];
     }
 }
