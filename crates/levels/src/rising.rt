@@ -134,24 +134,12 @@ fn rise(
     requires before_len { (length before.old ≡ nodes_at depth) × (take (nodes_at first) x.old ≡ risen problem (usables points.now) first 0) }
     ensures { x.new ≡ risen problem (usables points.now) first (depth - first) }
 {
-    let mut d = first;
-    while d < depth {
+    for d in first..depth {
         next_level(problem, points, d, x, before, b, s, r, p, ap);
-        d += 1;
     }
 }
 
-// The depth of the first level: the coarsest, or the depth itself where that is less.
-fn first_depth(depth: u32) -> u32
-    ensures { result ≡ min depth coarsest }
-{
-    if depth < Grid::COARSEST_DEPTH {
-        return depth;
-    }
-    Grid::COARSEST_DEPTH
-}
-
-// All levels.
+// All levels. The first is the coarsest, or the depth itself where that is less.
 pub fn all_levels(
     problem: Problem,
     points: &[f32],
@@ -169,7 +157,7 @@ pub fn all_levels(
     requires before_len { length before.old ≡ nodes_at depth }
     ensures { x.new ≡ solution problem (usables points.now) depth }
 {
-    let first = first_depth(depth);
+    let first = depth.min(Grid::COARSEST_DEPTH);
     first_level(problem, points, first, x, b, s, r, p, ap);
     rise(problem, points, first, depth, x, before, b, s, r, p, ap);
 }

@@ -26,10 +26,8 @@ fn start(coarse: Grid, g: Grid, before: &[f32], x: &mut [f32])
     requires before_len { (length before.now ≡ all_nodes coarse) × (length x.old ≡ all_nodes g) }
     ensures { x.new ≡ start_from coarse g before.now }
 {
-    let mut q = 0usize;
-    while q < x.len() {
+    for q in 0..x.len() {
         x[q] = start_at(coarse, g, before, Node::of(q));
-        q += 1;
     }
 }
 
@@ -42,6 +40,6 @@ pub fn start_front(coarse: Grid, g: Grid, before: &mut [f32], x: &mut [f32])
 {
     let n = coarse.len();
     let m = g.len();
-    vectors::copy(&mut before[..n], &x[..n]);
+    before[..n].copy_from_slice(&x[..n]);
     start(coarse, g, &before[..n], &mut x[..m]);
 }

@@ -10,7 +10,7 @@ use native.Mathlib.Omega.{arith}
 use Rattle.std.proofs.lemmas.List.{get_or-replicate}
 use Rattle.std.specs.Float.{nan}
 use Rattle.std.specs.Float.Ieee.{lt}
-use Rattle.lists.specs.Lists.{at, zero32, zeros32}
+use Rattle.lists.specs.Lists.{zero32, zeros32}
 use Rattle.lists.specs.Laws.Tabulate.{at_tabulate}
 use Rattle.numbers.specs.Arithmetic.{narrowed}
 use Rattle.closed.specs.Grid.{node, Outer}
