@@ -17,7 +17,7 @@ ghost use Rattle.solver_export.specs.Words.{grid_of_side};
 use grid::Grid;
 use levels::Problem;
 
-// One pass of the blur along an axis.
+// One pass of the blur along an axis. The kernel's length says its radius too; C hands over both.
 #[unsafe(no_mangle)]
 pub extern "C" fn hoardmagpie_blur_axis(
     v: &[f32],
@@ -37,7 +37,7 @@ pub extern "C" fn hoardmagpie_blur_axis(
         origin: [0.0, 0.0, 0.0],
         step: 0.0,
     };
-    blur::blur_axis(g, v, out, axis, kernel, radius);
+    blur::blur_axis(g, v, out, axis, kernel);
 }
 
 // A x.
