@@ -7,8 +7,8 @@ use Prim.Native.Nat.{ℕ, ◌+◌, ◌*◌, ◌<◌}
 use lib.ListN.{take}
 use lib.Ieee.{Float}
 use Rattle.lists.specs.Lists.{tabulate, zero32, zeros32}
-use Rattle.lists.specs.Laws.Tabulate.{tabulate_same}
-use Rattle.grid.specs.Grid.{at_end, boundary_row}
+use Rattle.lists.specs.Laws.Tabulate.{tabulate_ext, tabulate_same}
+use Rattle.grid.specs.Grid.{at_end, boundary_node, boundary_row}
 use Rattle.grid.specs.Laws.Rows.{boundary_row_lem, no_end}
 use Rattle.grid.specs.declared.Grid.{Grid}
 use Rattle.points.specs.declared.point.Point.{Point}
@@ -20,32 +20,40 @@ use Rattle.field.specs.Field.{right_side_at, right_side_by, right_side}
 use Rattle.field.specs.Words.{inner_at, row_at}
 
 module _ (n : ℕ) (h : Float) (x y z : List Float) where
-  -- ---- a row off the boundary
+  -- ---- a row off the boundary, element by element
 
-  pub at_ends : (first k : ℕ) → at_end n k ≡ true → zero32 ≡ row_at n h x y z first false k
+  pub at_ends : (first k : ℕ) → at_end n k ≡ true → zero32 ≡ row_at n h x y z first k
   unfolding row_at
   at_ends first k e = sym (ap (λ (b : Bool). cond b zero32 (inner_at n h x y z (first + k))) e)
 
-  pub between : {q : ℕ} {v : Float} (first k : ℕ) → 0 < k → k + 1 < n → v ≡ inner_at n h x y z q → q ≡ first + k → v ≡ row_at n h x y z first false k
+  pub between : {q : ℕ} {v : Float} (first k : ℕ) → 0 < k → k + 1 < n → v ≡ inner_at n h x y z q → q ≡ first + k → v ≡ row_at n h x y z first k
   unfolding row_at
   between first k low high e is =
       e
       ∙ ap (λ (m : ℕ). inner_at n h x y z m) is
       ∙ sym (ap (λ (b : Bool). cond b zero32 (inner_at n h x y z (first + k))) (no_end n k low high))
 
-  -- ---- a row on it
+  -- ---- row r of the cube
 
-  pub all_zero : (len first : ℕ) → zeros32 len ≡ tabulate len (row_at n h x y z first true)
+  node_is : (q : ℕ) (b : Bool) → boundary_node n q ≡ b → cond b zero32 (inner_at n h x y z q) ≡ right_side_at n h x y z q
+  unfolding right_side_at
+  node_is q b e = sym (ap (λ (t : Bool). cond t zero32 (inner_at n h x y z q)) e)
+
+  row_here : (r k : ℕ) (b : Bool) → k < n → boundary_row n r ≡ b → boundary_node n (r * n + k) ≡ b || at_end n k
+  row_here r k b lt e = boundary_row_lem n r lt ∙ ap (λ (t : Bool). t || at_end n k) e
+
+  pub boundary_row_is : {len : ℕ} (r : ℕ) → len ≡ n → boundary_row n r ≡ true → zeros32 len ≡ tabulate n (λ k. right_side_at n h x y z (r * n + k))
+  boundary_row_is {len} r size e =
+      ap zeros32 size ∙ sym (tabulate_same n zero32)
+      ∙ tabulate_ext n (λ _. zero32) (λ k. right_side_at n h x y z (r * n + k)) (λ k lt. node_is (r * n + k) true (row_here r k true lt e))
+
+  pub inner_row_is : {len first : ℕ} (r : ℕ) → len ≡ n → first ≡ r * n → boundary_row n r ≡ false
+      → tabulate len (row_at len h x y z first) ≡ tabulate n (λ k. right_side_at n h x y z (r * n + k))
   unfolding row_at
-  all_zero len first = sym (tabulate_same len zero32)
-
-  -- ---- any row
-
-  pub row_at_lem : {first : ℕ} {b : Bool} (r k : ℕ) → k < n → first ≡ r * n → b ≡ boundary_row n r → row_at n h x y z first b k ≡ right_side_at n h x y z (r * n + k)
-  unfolding row_at right_side_at
-  row_at_lem {first} {b} r k lt is test =
-      ap (λ (m : ℕ). cond (b || at_end n k) zero32 (inner_at n h x y z (m + k))) is
-      ∙ ap (λ (a : Bool). cond a zero32 (inner_at n h x y z (r * n + k))) (ap (λ (a : Bool). a || at_end n k) test ∙ sym (boundary_row_lem n r lt))
+  inner_row_is {len} {first} r size start e =
+      ap (λ (m : ℕ). tabulate m (row_at m h x y z first)) size
+      ∙ ap (λ (a : ℕ). tabulate n (row_at n h x y z a)) start
+      ∙ tabulate_ext n (row_at n h x y z (r * n)) (λ k. right_side_at n h x y z (r * n + k)) (λ k lt. node_is (r * n + k) (at_end n k) (row_here r k false lt e))
 
 -- ---- the components
 

@@ -1,5 +1,5 @@
 // The right side at every node, beside the Rust's `rhs`: -h² times the divergence of the field, whose components are x, y and z.
-ghost use Rattle.std.specs.Prelude.{◌≡◌, false, ◌+◌, ◌*◌, ◌≤◌, ◌<◌, length};
+ghost use Rattle.std.specs.Prelude.{◌≡◌, ◌+◌, ◌*◌, ◌≤◌, ◌<◌, length};
 ghost use Rattle.lists.specs.Lists.{tabulate};
 ghost use Rattle.numbers.specs.Arithmetic.{narrowed};
 ghost use Rattle.grid.specs.Grid.{Sides, all_nodes};
@@ -39,7 +39,7 @@ fn inner_row(b: &mut [f32], x: &[f32], y: &[f32], z: &[f32], first: Node, h: f32
         × (length y.now ≡ length x.now)
         × (length z.now ≡ length x.now) }
     ensures { b.new ≡ tabulate (length b.old)
-        (row_at (length b.old) h x.now y.now z.now first.0 false) }
+        (row_at (length b.old) h x.now y.now z.now first.0) }
 {
     let n = b.len();
     b[0] = 0.0;
@@ -49,21 +49,20 @@ fn inner_row(b: &mut [f32], x: &[f32], y: &[f32], z: &[f32], first: Node, h: f32
     b[n - 1] = 0.0;
 }
 
-// A row, which may be on the boundary as a whole.
-fn any_row(b: &mut [f32], x: &[f32], y: &[f32], z: &[f32], first: Node, h: f32, boundary: bool)
-    requires { (boundary ≡ false →
-        (2 ≤ length b.old)
-        × (length b.old ≤ 256)
-        × (length b.old * length b.old ≤ first.0)
-        × (first.0 + length b.old + length b.old * length b.old ≤ length x.now))
-        × (length y.now ≡ length x.now) × (length z.now ≡ length x.now) }
-    ensures { b.new ≡ tabulate (length b.old)
-        (row_at (length b.old) h x.now y.now z.now first.0 boundary) }
+// Row i·n+j, which may be on the boundary as a whole.
+fn any_row(g: Grid, b: &mut [f32], x: &[f32], y: &[f32], z: &[f32], row: usize, h: f32)
+    requires { Sides g.nodes
+        × (row < g.nodes * g.nodes)
+        × (length b.old ≡ g.nodes)
+        × (length x.now ≡ all_nodes g)
+        × (length y.now ≡ all_nodes g)
+        × (length z.now ≡ all_nodes g) }
+    ensures { b.new ≡ tabulate g.nodes (λ k. right_side_at g.nodes h x.now y.now z.now (row * g.nodes + k)) }
 {
-    if boundary {
-        lists::clear(b);
+    if g.boundary_row(row) {
+        lists::clear_f32(b);
     } else {
-        inner_row(b, x, y, z, first, h);
+        inner_row(b, x, y, z, g.row_start(row), h);
     }
 }
 
@@ -81,14 +80,6 @@ pub fn divergence(g: Grid, x: &[f32], y: &[f32], z: &[f32], b: &mut [f32])
     for row in 0..n * n {
         let a = row * n;
         let e = a + n;
-        any_row(
-            &mut b[a..e],
-            x,
-            y,
-            z,
-            g.row_start(row),
-            h,
-            g.boundary_row(row),
-        );
+        any_row(g, &mut b[a..e], x, y, z, row, h);
     }
 }

@@ -1,14 +1,19 @@
--- `field::divergence::any_row` meets its contract: a row on the boundary is all +0.0.
+-- `field::divergence::any_row` meets its contract: a row on the boundary is zeros, and any other has a plane of nodes before it and one after it.
 -- Assumes nothing.
-use Rattle.std.proofs.Common.{sym, ap, ◌∙◌, Bool, length}
-use Rattle.lists.specs.Lists.{tabulate}
-use Rattle.field.specs.Words.{row_at}
-use Rattle.field.proofs.RightSide.{all_zero}
+use Rattle.std.proofs.Common.{sym, ◌∙◌, arith}
+use Rattle.grid.specs.Laws.Rows.{inner_row}
+use Rattle.blur.specs.Laws.Within.{within_cube}
+use Rattle.field.proofs.RightSide.{boundary_row_is, inner_row_is}
 use Rattle.field.proofs.divergence.any_row.Goals as goal
 
-pub returns-then-boundary : goal.returns-then-boundary
-returns-then-boundary c =
-    let n = length c.args.b.now in
-    c.clear.ensures
-    ∙ all_zero n c.args.h c.args.x.now c.args.y.now c.args.z.now n c.args.first.0
-    ∙ ap (λ (a : Bool). tabulate n (row_at n c.args.h c.args.x.now c.args.y.now c.args.z.now c.args.first.0 a)) (sym c.if-boundary.true)
+pub inner_row-requires : goal.inner_row-requires
+inner_row-requires c =
+    let w = within_cube c.args.g.nodes c.args.row c.requires.0.most c.requires.1 in
+    let inside = inner_row c.args.g.nodes c.requires.1 (sym c.boundary_row.ensures ∙ c.if-boundary_row.false) in
+    rw c.requires.2 (omega (arith, c.row_start.ensures, c.requires.0.two, c.requires.0.most))
+
+pub returns-then-boundary_row : goal.returns-then-boundary_row
+returns-then-boundary_row c = c.clear_f32.ensures ∙ boundary_row_is c.args.g.nodes c.args.h c.args.x.now c.args.y.now c.args.z.now c.args.row c.requires.2 (sym c.boundary_row.ensures ∙ c.if-boundary_row.true)
+
+pub returns-else-boundary_row : goal.returns-else-boundary_row
+returns-else-boundary_row c = c.inner_row.ensures ∙ inner_row_is c.args.g.nodes c.args.h c.args.x.now c.args.y.now c.args.z.now c.args.row c.requires.2 c.row_start.ensures (sym c.boundary_row.ensures ∙ c.if-boundary_row.false)

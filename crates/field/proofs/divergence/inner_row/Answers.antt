@@ -1,6 +1,6 @@
 -- `field::divergence::inner_row` meets its contract. The loop's invariant: the first k elements of `b` are the row's.
 -- Assumes nothing.
-use Rattle.std.proofs.Common.{◌≡◌, refl, ◌∙◌, subst, false, ℕ, ◌-◌, ◌+◌, length, take, set, length-set, arith}
+use Rattle.std.proofs.Common.{◌≡◌, refl, ◌∙◌, subst, ℕ, ◌-◌, ◌+◌, length, take, set, length-set, arith}
 use Rattle.lists.specs.Lists.{tabulate, zero32}
 use Rattle.lists.specs.Laws.Prefix.{prefix_none, prefix_more, prefix_done}
 use Rattle.grid.specs.Laws.Rows.{first_end, last_end}
@@ -10,13 +10,13 @@ use Rattle.field.proofs.divergence.inner_row.Goals as goal
 
 pub loop-k-init : goal.loop-k-init
 loop-k-init c =
-    let f = row_at (length c.args.b.now) c.args.h c.args.x.now c.args.y.now c.args.z.now c.args.first.0 false in
+    let f = row_at (length c.args.b.now) c.args.h c.args.x.now c.args.y.now c.args.z.now c.args.first.0 in
     (prefix_more f 0 c.args.b.now (prefix_none f c.args.b.now) (omega arith) (at_ends (length c.args.b.now) _ _ _ _ c.args.first.0 0 (first_end (length c.args.b.now))), length-set c.args.b.now 0 _, omega arith, omega arith, refl)
 
 pub loop-k-preserved : goal.loop-k-preserved
 loop-k-preserved c =
     let n = length c.args.b.now in
-    let f = row_at n c.args.h c.args.x.now c.args.y.now c.args.z.now c.args.first.0 false in (
+    let f = row_at n c.args.h c.args.x.now c.args.y.now c.args.z.now c.args.first.0 in (
       prefix_more f c.loop-k.k c.loop-k.b c.loop-k.invariant.0 (omega arith) (between n _ _ _ _ c.args.first.0 c.loop-k.k (omega arith) (omega arith) c.inner.ensures c.after.ensures),
       length-set c.loop-k.b c.loop-k.k _ ∙ c.loop-k.invariant.1,
       omega arith,
@@ -27,7 +27,7 @@ loop-k-preserved c =
 pub returns : goal.returns
 returns c =
     let n = length c.args.b.now in
-    let f = row_at n c.args.h c.args.x.now c.args.y.now c.args.z.now c.args.first.0 false in
+    let f = row_at n c.args.h c.args.x.now c.args.y.now c.args.z.now c.args.first.0 in
     let last : c.loop-k.k ≡ n - 1 = omega arith in
     let all : n - 1 + 1 ≡ n = omega arith in
     let written = rw last at c.loop-k.invariant.0 in
