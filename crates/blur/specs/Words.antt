@@ -1,6 +1,6 @@
 -- Words for contracts: what a slice of weights is, one element of a row, what a row reads, and a kernel with room to spare. No definition rests on them;
 -- callers see `radius_in`, `IsKernel` and `KernelOf` alone.
-use Rattle.std.specs.Prelude.{◌≡◌, List, ℕ, ◌+◌, ◌*◌, ◌/◌, ◌≤◌, length, Option, Some, None, Float}
+use Rattle.std.specs.Prelude.{◌≡◌, List, ℕ, ◌+◌, ◌*◌, ◌/◌, ◌≤◌, ◌<◌, length, Option, Some, None, Float}
 use Rattle.std.specs.Float.{binary32}
 use Rattle.std.specs.Float.Ieee.{add, mul}
 use Rattle.lists.specs.Lists.{at, zero32, padded}
@@ -32,6 +32,10 @@ across first stride k p = first + k + p * stride
 abbrev pub Reach : (first stride len room : ℕ) → Option ℕ → Type 0
 Reach first stride len room (Some p) = first + p * stride + len ≤ room
 Reach first stride len room None = Unit {0}
+
+-- a row that is a line itself: its sums, and its values
+abbrev pub Line : (out v : List Float) → Type 0
+Line out v = (0 < length out) × (length out ≤ 256) × (length v ≡ length out)
 
 -- offset t - radius leads the first node of a side of n nodes outside
 abbrev pub FirstOutside : (n radius t : ℕ) → Type 0

@@ -4,7 +4,7 @@ ghost use Rattle.std.specs.Prelude.{◌≡◌, ℕ, ◌+◌, ◌*◌, ◌≤◌,
 ghost use Rattle.lists.specs.Lists.{tabulate, at};
 ghost use Rattle.grid.specs.Grid.{Sides, all_nodes, row_start};
 ghost use Rattle.blur.specs.Blur.{moved_to, with_term, blur_at};
-ghost use Rattle.blur.specs.Words.{radius_in, IsKernel, blur_by, plus_times, across, Reach, FirstOutside};
+ghost use Rattle.blur.specs.Words.{radius_in, IsKernel, blur_by, plus_times, across, Reach, Line, FirstOutside};
 
 use grid::{Grid, Node};
 
@@ -67,11 +67,7 @@ fn blur_across(
 // One offset's terms, added to the sums of a row that is a line itself, where its first node's place is outside: the run of nodes inside ends at the last.
 #[tactic(auto, using(crate::proofs::Moved::inside_moved))]
 fn add_to_end(out: &mut [f32], v: &[f32], t: usize, radius: usize, w: f32)
-    requires { (0 < length out.old)
-        × (length out.old ≤ 256)
-        × (length v.now ≡ length out.old)
-        × (t ≤ 36)
-        × FirstOutside (length out.old) radius t }
+    requires { Line out.old v.now × (t ≤ 36) × FirstOutside (length out.old) radius t }
     ensures { out.new ≡ tabulate (length out.old)
         (λ k. with_term v.now (λ p. p) w (moved_to (length out.old) radius k t) (at out.old k)) }
 {
@@ -87,7 +83,7 @@ fn add_to_end(out: &mut [f32], v: &[f32], t: usize, radius: usize, w: f32)
 // the last.
 #[tactic(auto, using(crate::proofs::Moved::inside_moved))]
 fn add_along(out: &mut [f32], v: &[f32], t: usize, radius: usize, w: f32)
-    requires { (0 < length out.old) × (length out.old ≤ 256) × (length v.now ≡ length out.old) × (t ≤ 36) }
+    requires { Line out.old v.now × (t ≤ 36) }
     ensures { out.new ≡ tabulate (length out.old)
         (λ k. with_term v.now (λ p. p) w (moved_to (length out.old) radius k t) (at out.old k)) }
 {
@@ -105,10 +101,7 @@ fn add_along(out: &mut [f32], v: &[f32], t: usize, radius: usize, w: f32)
 
 // A row that is a line itself.
 fn blur_along(out: &mut [f32], v: &[f32], kernel: &[f32])
-    requires { (0 < length out.old)
-        × (length out.old ≤ 256)
-        × (length v.now ≡ length out.old)
-        × IsKernel kernel.now }
+    requires { Line out.old v.now × IsKernel kernel.now }
     ensures { out.new ≡ tabulate (length out.old)
         (λ k. blur_by v.now (λ p. p) (length out.old) k kernel.now) }
 {

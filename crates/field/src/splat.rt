@@ -3,6 +3,7 @@ ghost use Rattle.std.specs.Prelude.{◌≡◌, cond, ◌*◌, ◌<◌, length};
 ghost use Rattle.grid.specs.Grid.{Sides, CellInside, all_nodes};
 ghost use Rattle.points.specs.Points.{usable_of, usables};
 ghost use Rattle.field.specs.Field.{corner_added, point_added, splatted};
+ghost use Rattle.field.specs.Words.{Spread};
 
 use grid::{Cell, Grid};
 use points::Point;
@@ -18,7 +19,7 @@ fn add_corner(v: &mut [f32], g: Grid, cell: Cell, u: f64, c: usize)
 
 // A point's unit, component a, at the eight corners of its cell in order.
 fn add_point(v: &mut [f32], g: Grid, p: Point, a: usize)
-    requires { Sides g.nodes × (length v.old ≡ all_nodes g) × (a < 3) }
+    requires { Spread g v.old a }
     ensures { v.new ≡ point_added g a v.old p }
 {
     let cell = g.cell(p.place());
@@ -31,7 +32,7 @@ fn add_point(v: &mut [f32], g: Grid, p: Point, a: usize)
 
 // A point that is skipped adds nothing.
 fn add_usable(v: &mut [f32], g: Grid, p: Point, a: usize)
-    requires { Sides g.nodes × (length v.old ≡ all_nodes g) × (a < 3) }
+    requires { Spread g v.old a }
     ensures { v.new ≡ cond (usable_of p) (point_added g a v.old p) v.old }
 {
     if p.usable() {
@@ -41,7 +42,7 @@ fn add_usable(v: &mut [f32], g: Grid, p: Point, a: usize)
 
 // All points in order, from zeros.
 pub fn splat(g: Grid, points: &[f32], a: usize, v: &mut [f32])
-    requires { Sides g.nodes × (length v.old ≡ all_nodes g) × (a < 3) }
+    requires { Spread g v.old a }
     ensures { v.new ≡ splatted g (usables points.now) a }
 {
     lists::clear_f32(v);

@@ -1,7 +1,11 @@
--- How long the seven slices of the levels are, and what they are left with: the words of this crate's contracts. No definition of what is right rests on
--- them. Assumes nothing.
-use Rattle.std.specs.Prelude.{◌≡◌, List, ℕ, length, Float}
+-- Which depths there are, how long the seven slices of the levels are, and what they are left with: the words of this crate's contracts. No definition of
+-- what is right rests on them. Assumes nothing.
+use Rattle.std.specs.Prelude.{◌≡◌, List, ℕ, ◌≤◌, length, Float}
 use Rattle.lists.specs.Lists.{zeros32}
+
+-- the depths that there are
+abbrev pub IsDepth : ℕ → Type 0
+IsDepth depth = (1 ≤ depth) × (depth ≤ 8)
 
 -- each slice of one level has n elements
 pub record LevelSlices (n : ℕ) (x b s r p ap : List Float) : Type 0 where

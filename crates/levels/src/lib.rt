@@ -7,7 +7,7 @@ ghost use Rattle.std.specs.Prelude.{◌≡◌, ◌≤◌, length};
 ghost use Rattle.grid.specs.Grid.{Sides};
 ghost use Rattle.points.specs.Points.{usables};
 ghost use Rattle.levels.specs.Levels.{grid_at, nodes_at, solution};
-ghost use Rattle.levels.specs.Words.{LevelSlices, Zeros, LevelsLeft};
+ghost use Rattle.levels.specs.Words.{IsDepth, LevelSlices, Zeros, LevelsLeft};
 
 mod rising;
 mod starting;
@@ -29,7 +29,7 @@ pub struct Problem {
 impl Problem {
     // The grid of a level: all levels lie in one cube.
     pub fn grid(self, depth: u32) -> Grid
-        requires { (1 ≤ depth) × (depth ≤ 8) }
+        requires { IsDepth depth }
         ensures { (result ≡ grid_at self depth) × Sides result.nodes }
     {
         let origin = self.origin;
@@ -51,7 +51,7 @@ pub fn solve(
     p: &mut [f32],
     ap: &mut [f32],
 )
-    requires le_depth { (1 ≤ depth) × (depth ≤ 8) }
+    requires le_depth { IsDepth depth }
     requires level_slices { LevelSlices (nodes_at depth) x.old b.old s.old r.old p.old ap.old }
     requires before_len { length before.old ≡ nodes_at depth }
     ensures { LevelsLeft (nodes_at depth) (solution problem (usables points.now) depth) x.new before.new

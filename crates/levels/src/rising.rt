@@ -3,7 +3,7 @@ ghost use Rattle.std.specs.Prelude.{◌≡◌, ◌+◌, ◌-◌, ◌≤◌, ◌<
 ghost use Rattle.grid.specs.Grid.{Sides, all_nodes};
 ghost use Rattle.points.specs.Points.{usables};
 ghost use Rattle.levels.specs.Levels.{coarsest, grid_at, nodes_at, start_from, level_from, risen, solution};
-ghost use Rattle.levels.specs.Words.{LevelSlices};
+ghost use Rattle.levels.specs.Words.{IsDepth, LevelSlices};
 
 use crate::Problem;
 use crate::starting::start_front;
@@ -82,7 +82,7 @@ fn first_level(
     p: &mut [f32],
     ap: &mut [f32],
 )
-    requires le_depth { (1 ≤ depth) × (depth ≤ 8) }
+    requires le_depth { IsDepth depth }
     requires level_slices { LevelSlices (length x.old) x.old b.old s.old r.old p.old ap.old }
     requires depth_in_bounds { nodes_at depth ≤ length x.old }
     ensures { take (nodes_at depth) x.new ≡ risen problem (usables points.now) depth 0 }
@@ -152,7 +152,7 @@ pub fn all_levels(
     p: &mut [f32],
     ap: &mut [f32],
 )
-    requires le_depth { (1 ≤ depth) × (depth ≤ 8) }
+    requires le_depth { IsDepth depth }
     requires level_slices { LevelSlices (nodes_at depth) x.old b.old s.old r.old p.old ap.old }
     requires before_len { length before.old ≡ nodes_at depth }
     ensures { x.new ≡ solution problem (usables points.now) depth }

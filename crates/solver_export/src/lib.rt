@@ -11,7 +11,7 @@ ghost use Rattle.laplacian.specs.Laplacian.{apply_at};
 ghost use Rattle.solver.specs.Solver.{conjugate};
 ghost use Rattle.solver.specs.Words as level;
 ghost use Rattle.levels.specs.Levels.{nodes_at, solution};
-ghost use Rattle.levels.specs.Words.{LevelSlices, LevelsLeft};
+ghost use Rattle.levels.specs.Words.{IsDepth, LevelSlices, LevelsLeft};
 ghost use Rattle.solver_export.specs.Words.{grid_of_side};
 
 use grid::Grid;
@@ -105,7 +105,7 @@ pub extern "C" fn hoardmagpie_solve(
     p: &mut [f32],
     ap: &mut [f32],
 )
-    requires le_depth { (1 ≤ depth) × (depth ≤ 8) }
+    requires le_depth { IsDepth depth }
     requires level_slices { LevelSlices (nodes_at depth) x.old b.old s.old r.old p.old ap.old }
     requires before_len { length before.old ≡ nodes_at depth }
     ensures { LevelsLeft (nodes_at depth)
