@@ -1,9 +1,10 @@
 -- No second outcome fits: each public function, in the order of the sources. Assumes nothing.
 use mathlib.Core.Path.{◌≡◌, refl}
-use package.contract.Lifetimes.{Lfts}
-use denote.Triple.Entry.{Args, Res}
-use denote.Triple.Clauses.{AtExit}
-use Rattle.lists.specs.OneOutcome.{OneOutcome}
+use mathlib.Core.List.{List}
+use Prim.Native.Nat.{ℕ}
+use denote.Bor.{Bor}
+use lib.Ieee.{Float}
+use Rattle.lists.specs.OneOutcome.{OneOutcome, OneOutcomeAmong}
 use Rattle.lists.specs.Laws.OneAnswer.{same, ◌&◌}
 use Rattle.blur.specs.declared.kernel.Kernel.{Kernel}
 use Rattle.blur.specs.contracts as contract
@@ -11,6 +12,9 @@ use Rattle.blur.proofs as fn
 
 by_parts : {a b : Kernel} → a.radius ≡ b.radius → a.weights ≡ b.weights → a ≡ b
 by_parts radius weights = λ i. record { radius = radius i; weights = weights i }
+
+by_lent : {a b : Bor (List Float)} → a.ref_ptr ≡ b.ref_ptr → a.now ≡ b.now → a ≡ b
+by_lent place now = λ i. record { ref_ptr = place i; now = now i }
 
 -- ---- lib.rt
 
@@ -33,8 +37,7 @@ kernel_radius_of κs args o o' p q = same p q & refl
 pub kernel_new : OneOutcome contract.kernel.Kernel.new.ended fn.kernel.Kernel.new.Reads.Post
 kernel_new κs args o o' p q = by_parts (same p.reach q.reach) (same p.all q.all) & refl
 
--- a slice is lent, and where it lies is no part of the answer: what stands in it is
-pub kernel_weights : (κs : Lfts contract.kernel.Kernel.weights.ended.signature.lifetimes) (args : Args contract.kernel.Kernel.weights.ended.signature κs)
-    (a b : Res contract.kernel.Kernel.weights.ended.signature κs) (end : AtExit contract.kernel.Kernel.weights.ended κs)
-    → fn.kernel.Kernel.weights.Reads.Post κs args a end → fn.kernel.Kernel.weights.Reads.Post κs args b end → a.now ≡ b.now
-kernel_weights κs args a b end p q = same p q
+-- where the lent slice lies is no part of the answer: of those at one place, no second fits
+module _ (place : ℕ × ℕ) where
+  pub kernel_weights : OneOutcomeAmong contract.kernel.Kernel.weights.ended (λ κs r. r.ref_ptr ≡ place) fn.kernel.Kernel.weights.Reads.Post
+  kernel_weights κs args o o' p q = by_lent (same p.0 q.0) (same p.1 q.1) & refl

@@ -1,15 +1,24 @@
--- The points spread over the nodes: the slice keeps its length, corner by corner and point by point. By `length-set`. Assumes nothing.
+-- The points spread over the nodes: a corner lies in the slice, and the slice keeps its length, corner by corner and point by point. By `length-set`.
+-- Assumes nothing.
 use mathlib.Core.Path.{◌≡◌, refl, sym, ap, ◌∙◌}
 use mathlib.Core.Bool.{Bool, true, false, cond}
 use mathlib.Core.List.{List}
-use Prim.Native.Nat.{ℕ, zero, suc, ◌+◌}
+use Prim.Native.Nat.{ℕ, zero, suc, ◌+◌, ◌*◌, ◌<◌, ◌≤◌}
 use native.Mathlib.Numerals.{add-one}
+use native.Mathlib.Omega.{arith}
 use lib.ListN.{length, length-set}
 use lib.Ieee.{Float}
 use Rattle.grid.specs.declared.Grid.{Grid}
 use Rattle.grid.specs.declared.Cell.{Cell}
+use Rattle.grid.specs.Grid.{Sides, CellInside, cell_corner}
+use Rattle.grid.specs.Laws.Rows.{cube_most}
+use Rattle.grid.specs.Laws.Cells.{corner_below}
 use Rattle.points.specs.declared.point.Point.{Point}
 use Rattle.field.specs.Field.{corner_added, corners_added, point_added}
+
+-- a corner is a node of the slice, whose length is small
+pub corner_within : {n len q : ℕ} {cell : Cell} (c : ℕ) → Sides n → CellInside n cell → len ≡ n * n * n → q ≡ cell_corner n cell c → (q < len) × (len ≤ 16777216)
+corner_within c sides inside size e = omega (arith, e, corner_below c inside, size, cube_most sides.most)
 
 module _ (n : ℕ) (cell : Cell) (u : Float) where
   pub length_corner : (c : ℕ) (v : List Float) → length (corner_added n cell u c v) ≡ length v

@@ -1,5 +1,5 @@
 // The usable points spread over the nodes round them, one component of their units at a time; in the Rust the first half of `vector_field`.
-ghost use Rattle.std.specs.Prelude.{◌≡◌, cond, ◌*◌, ◌<◌, length};
+ghost use Rattle.std.specs.Prelude.{◌≡◌, cond, ◌*◌, length};
 ghost use Rattle.grid.specs.Grid.{Sides, CellInside, all_nodes};
 ghost use Rattle.points.specs.Points.{usable_of, usables};
 ghost use Rattle.field.specs.Field.{corner_added, point_added, splatted};
@@ -9,6 +9,7 @@ use grid::{Cell, Grid};
 use points::Point;
 
 // The narrowed weight·unit at corner c: the product in f64, the sum in f32.
+#[tactic(auto, using(crate::proofs::Corners::corner_within))]
 fn add_corner(v: &mut [f32], g: Grid, cell: Cell, u: f64, c: usize)
     requires { Sides g.nodes × CellInside g.nodes cell × (length v.old ≡ all_nodes g) }
     ensures { v.new ≡ corner_added g.nodes cell u c v.old }

@@ -1,8 +1,8 @@
 // The levels, from the first on: a loop where the Rust calls itself.
-ghost use Rattle.std.specs.Prelude.{◌≡◌, ◌+◌, ◌-◌, ◌≤◌, ◌<◌, min, length, take};
+ghost use Rattle.std.specs.Prelude.{◌≡◌, ◌+◌, ◌-◌, ◌≤◌, ◌<◌, length, take};
 ghost use Rattle.grid.specs.Grid.{Sides, all_nodes};
 ghost use Rattle.points.specs.Points.{usables};
-ghost use Rattle.levels.specs.Levels.{coarsest, grid_at, nodes_at, start_from, level_from, risen, solution};
+ghost use Rattle.levels.specs.Levels.{grid_at, nodes_at, start_from, level_from, risen, solution};
 ghost use Rattle.levels.specs.Words.{IsDepth, LevelSlices};
 
 use crate::Problem;
