@@ -113,14 +113,7 @@ fn blur_along(out: &mut [f32], v: &[f32], kernel: &[f32])
 }
 
 // Row i·n+j of the cube.
-fn blur_row(
-    out: &mut [f32],
-    v: &[f32],
-    g: Grid,
-    row: usize,
-    axis: usize,
-    kernel: &[f32],
-)
+fn blur_row(out: &mut [f32], v: &[f32], g: Grid, row: usize, axis: usize, kernel: &[f32])
     requires { Sides g.nodes
         × (row < g.nodes * g.nodes)
         × (length out.old ≡ g.nodes)

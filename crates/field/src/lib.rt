@@ -17,14 +17,7 @@ use blur::Kernel;
 use grid::Grid;
 
 // One component of the field, by way of s.
-fn component(
-    points: &[f32],
-    g: Grid,
-    kernel: &[f32],
-    a: usize,
-    s: &mut [f32],
-    out: &mut [f32],
-)
+fn component(points: &[f32], g: Grid, kernel: &[f32], a: usize, s: &mut [f32], out: &mut [f32])
     requires { Sides g.nodes
         × IsKernel kernel.now
         × (a < 3)

@@ -7,4 +7,3 @@ use Rattle.solver.proofs.gradients.turns.Given as goal
 
 abbrev pub invariant-loop : goal.invariant-loop
 invariant-loop l = (steps l.g l.limit (l.cap - l.counter) (record { x = l.x; r = l.r; p = l.p; rr = l.rr }) ≡ steps l.g l.limit l.cap (record { x = l.initial.x; r = l.initial.r; p = l.initial.p; rr = l.initial.rr })) × NodeSlices l.g l.x l.r l.p l.ap
-
