@@ -40,6 +40,6 @@ pub fn start_front(coarse: Grid, g: Grid, before: &mut [f32], x: &mut [f32])
 {
     let n = coarse.len();
     let m = g.len();
-    before[..n].copy_from_slice(&x[..n]);
+    vectors::copy(&mut before[..n], &x[..n]);
     start(coarse, g, &before[..n], &mut x[..m]);
 }

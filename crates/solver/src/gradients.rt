@@ -7,7 +7,7 @@ ghost use Rattle.solver.specs.Words.{SolutionLeft, Updated, Turned};
 
 use grid::Grid;
 use laplacian::apply;
-use vectors::{advance, dot, less, xpay};
+use vectors::{advance, copy, dot, less, xpay};
 
 // The step by alpha: x, r, rr, beta and p, in this order. It answers the new rr.
 fn update(
@@ -91,7 +91,7 @@ fn begin(g: Grid, b: &[f32], x: &[f32], r: &mut [f32], p: &mut [f32], ap: &mut [
 {
     apply(g, x, ap);
     less(r, b, ap);
-    p.copy_from_slice(r);
+    copy(p, r);
     dot(g, r, r)
 }
 

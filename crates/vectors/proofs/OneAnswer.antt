@@ -16,3 +16,6 @@ xpay κs args o o' p q = refl & same p q & refl
 
 pub less : OneOutcome contract.less.ended fn.less.Reads.Post
 less κs args o o' p q = refl & same p q & refl
+
+pub copy : OneOutcome contract.copy.ended fn.copy.Reads.Post
+copy κs args o o' p q = refl & same p q & refl

@@ -58,3 +58,13 @@ pub fn less(r: &mut [f32], b: &[f32], ax: &[f32])
         r[i] = b[i] - ax[i];
     }
 }
+
+// p becomes r. The library's copy_from_slice would call memmove, and of the C library the exported functions call memset and memcpy alone.
+pub fn copy(p: &mut [f32], r: &[f32])
+    requires { length r.now ≡ length p.old }
+    ensures { p.new ≡ r.now }
+{
+    for i in 0..p.len() {
+        p[i] = r[i];
+    }
+}

@@ -4,4 +4,4 @@ use Rattle.solver.proofs.Steps.{start_is}
 use Rattle.solver.proofs.gradients.begin.Goals as goal
 
 pub returns : goal.returns
-returns c = start_is c.args.g c.args.b.now c.apply.ensures (of_size _ c.less.ensures c.requires.node_slices.of_r) c.copy_from_slice.ensures.after c.dot.ensures
+returns c = start_is c.args.g c.args.b.now c.apply.ensures (of_size _ c.less.ensures c.requires.node_slices.of_r) c.copy.ensures c.dot.ensures
