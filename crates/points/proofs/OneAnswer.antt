@@ -24,9 +24,6 @@ bounds_origin κs args o o' p q = same p q & refl
 pub squares : OneOutcome contract.point.squares.ended fn.point.squares.Reads.Post
 squares κs args o o' p q = same p q & refl
 
-pub usability_usable : OneOutcome contract.point.Usability.usable.ended fn.point.Usability.usable.Reads.Post
-usability_usable κs args o o' p q = same p q & refl
-
 pub point_given : OneOutcome contract.point.Point.given.ended fn.point.Point.given.Reads.Post
 point_given κs args o o' p q = same p q & refl
 

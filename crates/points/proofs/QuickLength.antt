@@ -1,6 +1,7 @@
 -- A square strictly between 1e-24 and 1e30 has a usable length for its root: `quick`. For the root keeps order, and the roots of those two are 1e-12's
 -- f32 exactly and a finite number. Assumes nothing.
 use mathlib.Core.Path.{◌≡◌, refl, subst}
+use Rattle.std.specs.Prelude.{is_ok}
 use mathlib.Core.Bool.{true, false, false≢true}
 use lib.Dec.{T}
 use lib.IntN.{pos}
@@ -13,7 +14,7 @@ use Rattle.numbers.proofs.Laws.SumOfSquares.{lt_le, le_not, not_negative}
 use Rattle.numbers.specs.Laws.SumOfSquares.{Square, none, far, some}
 use Rattle.numbers.proofs.Laws.RootSquares.{root_held}
 use Rattle.numbers.specs.Laws.RootSquares.{HeldSquare}
-use Rattle.points.specs.Points.{length_usability, is_usable}
+use Rattle.points.specs.Points.{length_usability}
 
 -- ---- the two bounds, 1e-24 and 1e30 as the code's literals stand in a goal, and their roots
 
@@ -62,7 +63,7 @@ above_number (inf s) (fin r n d) t = refl
 above_number (fin s m e) (inf r) t = refl
 above_number (fin s m e) (fin r n d) t = refl
 
-pub quick : (q : Float) → HeldSquare binary32 q → lt low24 q ≡ true → lt q high30 ≡ true → true ≡ is_usable (length_usability (rooted binary32 q))
+pub quick : (q : Float) → HeldSquare binary32 q → lt low24 q ≡ true → lt q high30 ≡ true → true ≡ is_ok (length_usability (rooted binary32 q))
 unfolding length_usability
 quick q g a b =
     let k = (root_held binary32 q g).kind in

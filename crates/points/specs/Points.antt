@@ -1,6 +1,6 @@
 -- Document 01, "Points", in its order: what a point is, why it is skipped, its normal's length, its units; then the list of usable points, of which
 -- everything above speaks. Only `given` and `point_at` know how many numbers a point has. Definitions only; assumes nothing.
-use Rattle.std.specs.Prelude.{Bool, true, false, cond, ◌&&◌, List, [], ◌∷◌, ℕ, ◌+◌, ◌*◌, ◌/◌, length, Float}
+use Rattle.std.specs.Prelude.{Bool, cond, ◌&&◌, List, [], ◌∷◌, ℕ, ◌+◌, ◌*◌, ◌/◌, length, filter, Result, Ok, Err, is_ok, Float}
 use Rattle.std.specs.Float.{binary32}
 use Rattle.std.specs.Float.Ieee.{add, mul, div, lt}
 use Rattle.std.specs.Float.Ieee.Scale.{finite}
@@ -8,8 +8,9 @@ use Rattle.numbers.specs.Constants.{trillionth32}
 use Rattle.numbers.specs.Arithmetic.{rooted}
 use Rattle.lists.specs.Lists.{tabulate, at}
 use Rattle.points.specs.declared.point.Point.{Point}
-use Rattle.points.specs.declared.point.Usability.{Usability}
-use Rattle.points.specs.declared.point.Usability.TheVariants.{Usable, PositionNotFinite, LengthNotFinite, NormalTooShort}
+use Rattle.points.specs.declared.point.Points.{Points}
+use Rattle.points.specs.declared.point.Unusable.{Unusable}
+use Rattle.points.specs.declared.point.Unusable.TheVariants.{PositionNotFinite, LengthNotFinite, NormalTooShort}
 
 -- ---- the points that are given
 
@@ -30,6 +31,14 @@ point_at xs i =
       normal = at xs (k + 3) ∷ at xs (k + 4) ∷ at xs (k + 5) ∷ [];
     }
 
+-- all of them
+unfoldable pub points_of : List Float → List Point
+points_of xs = tabulate (given xs) (point_at xs)
+
+-- those that an iterator has still to give
+abbrev pub points_left : Points → List Point
+points_left it = points_of it.rest.now
+
 -- ---- which are usable
 
 -- (x·x + y·y) + z·z in f32
@@ -41,25 +50,19 @@ unfoldable pub length_of : Point → Float
 length_of p = rooted binary32 (squares_of (at p.normal 0) (at p.normal 1) (at p.normal 2))
 
 -- what a length says: not finite, or under the f32 nearest 1e-12, or usable
-unfoldable pub length_usability : Float → Usability
-length_usability n = cond (finite n) (cond (lt n trillionth32) NormalTooShort Usable) LengthNotFinite
+unfoldable pub length_usability : Float → Result (Unit {0}) Unusable
+length_usability n = cond (finite n) (cond (lt n trillionth32) (Err NormalTooShort) (Ok tt)) (Err LengthNotFinite)
 
 -- whether each position component is finite
 unfoldable pub placed_of : Point → Bool
 placed_of p = finite (at p.at 0) && (finite (at p.at 1) && finite (at p.at 2))
 
 -- why a point is skipped, the position first; or that it is usable
-unfoldable pub usability_of : Point → Usability
-usability_of p = cond (placed_of p) (length_usability (length_of p)) PositionNotFinite
-
-abbrev pub is_usable : Usability → Bool
-is_usable Usable = true
-is_usable PositionNotFinite = false
-is_usable LengthNotFinite = false
-is_usable NormalTooShort = false
+unfoldable pub usability_of : Point → Result (Unit {0}) Unusable
+usability_of p = cond (placed_of p) (length_usability (length_of p)) (Err PositionNotFinite)
 
 unfoldable pub usable_of : Point → Bool
-usable_of p = is_usable (usability_of p)
+usable_of p = is_ok (usability_of p)
 
 -- ---- what a usable point is used for: its position and its unit, in f64
 
@@ -73,8 +76,7 @@ unit_of p = div binary32 (at p.normal 0) (length_of p) ∷ div binary32 (at p.no
 -- ---- the usable points, in the order given
 
 unfoldable pub usable_among : List Point → List Point
-usable_among [] = []
-usable_among (p ∷ ps) = let t = usable_among ps in cond (usable_of p) (p ∷ t) t
+usable_among ps = filter usable_of ps
 
 -- those among the first i that are given
 unfoldable pub usable_to : List Float → ℕ → List Point

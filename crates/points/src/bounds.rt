@@ -39,21 +39,14 @@ impl Bounds {
     pub fn of(points: &[f32]) -> Bounds
         ensures { result ≡ bounds_of (usables points.now) }
     {
-        let all = Point::given(points);
         let far = 1.0 / 0.0;
-        let mut b = Bounds {
+        let none = Bounds {
             lo: [far, far, far],
             hi: [-far, -far, -far],
         };
-        let mut i = 0usize;
-        while i < all {
-            let p = Point::read(points, i);
-            if p.usable() {
-                b = b.reach(p);
-            }
-            i += 1;
-        }
-        b
+        Point::all(points)
+            .filter(|p| p.usable())
+            .fold(none, |b, p| b.reach(p))
     }
 
     // The largest extent.

@@ -7,4 +7,4 @@ mod bounds;
 mod point;
 
 pub use bounds::Bounds;
-pub use point::{Point, Usability, squares, usable_count};
+pub use point::{Point, Points, Unusable, squares, usable_count};

@@ -1,10 +1,11 @@
 // Document 01, "Points": a position and a normal, and which points are usable.
-ghost use Rattle.std.specs.Prelude.{◌≡◌, ◌<◌, length};
+ghost use Rattle.std.specs.Prelude.{◌≡◌, ◌<◌, ◌^◌, length, is_ok};
 ghost use Rattle.std.specs.Float.{binary32};
-ghost use Rattle.std.specs.Float.Ieee.Scale as Scale;
+ghost use Rattle.std.specs.Iterator.{YieldsFirst, item_count};
+ghost use Rattle.std.specs.Iterator.Runs.{YieldsInOrder};
 ghost use Rattle.numbers.specs.Arithmetic.{rooted};
-ghost use Rattle.points.specs.Points.{given, point_at, squares_of, length_of, length_usability, placed_of};
-ghost use Rattle.points.specs.Points.{usability_of, is_usable, usable_of, position_of, unit_of, usables};
+ghost use Rattle.points.specs.Points.{given, point_at, points_of, points_left, squares_of, length_of, length_usability, placed_of};
+ghost use Rattle.points.specs.Points.{usability_of, usable_of, position_of, unit_of, usables};
 
 // A position and a normal.
 #[derive(Clone, Copy)]
@@ -13,20 +14,12 @@ pub struct Point {
     pub normal: [f32; 3],
 }
 
-// Why a point is skipped, in the order of checking; or that it is not.
-#[derive(Clone, Copy)]
-pub enum Usability {
-    Usable,
+// Why a point is skipped, in the order of checking.
+#[derive(Clone, Copy, Debug, PartialEq, Eq)]
+pub enum Unusable {
     PositionNotFinite,
     LengthNotFinite,
     NormalTooShort,
-}
-
-// Whether x is a number and no infinity.
-fn finite(x: f32) -> bool
-    ensures { result ≡ Scale.finite x }
-{
-    if x < 1.0 / 0.0 { x > -1.0 / 0.0 } else { false }
 }
 
 // (x·x + y·y) + z·z, which overflows and vanishes as f32 does.
@@ -37,47 +30,31 @@ pub fn squares(x: f32, y: f32, z: f32) -> f32
 }
 
 // What a normal's length says. It is compared in f32: the literal is the f32 nearest 1e-12.
-fn judge(length: f32) -> Usability
+fn judge(length: f32) -> Result<(), Unusable>
     ensures { result ≡ length_usability length }
 {
-    if finite(length) {
-        if length < 0.000000000001 {
-            return Usability::NormalTooShort;
-        }
-        return Usability::Usable;
+    if !length.is_finite() {
+        return Err(Unusable::LengthNotFinite);
     }
-    Usability::LengthNotFinite
+    if length < 0.000000000001 {
+        return Err(Unusable::NormalTooShort);
+    }
+    Ok(())
 }
 
 // Whether a normal has a usable length. A square between 1e-24 and 1e30 settles it, and no root is taken.
 fn long(x: f32, y: f32, z: f32) -> bool
-    ensures { result ≡ is_usable (length_usability (rooted binary32 (squares_of x y z))) }
+    ensures { result ≡ is_ok (length_usability (rooted binary32 (squares_of x y z))) }
 {
     let square = squares(x, y, z);
-    if square > 0.000000000000000000000001 {
-        if square < 1000000000000000000000000000000.0 {
-            return true;
-        }
+    if square > 0.000000000000000000000001 && square < 1000000000000000000000000000000.0 {
+        return true;
     }
-    judge(arith::root(square)).usable()
-}
-
-impl Usability {
-    // Whether there is no reason to skip the point.
-    pub fn usable(self) -> bool
-        ensures { result ≡ is_usable self }
-    {
-        match self {
-            Usability::Usable => true,
-            Usability::PositionNotFinite => false,
-            Usability::LengthNotFinite => false,
-            Usability::NormalTooShort => false,
-        }
-    }
+    judge(arith::root32(square)).is_ok()
 }
 
 impl Point {
-    // How many numbers a point has. Only `given` and `read` know it.
+    // How many numbers a point has. Only `given`, `read` and the iterator know it.
     pub const NUMBERS: usize = 6;
 
     // How many points a slice holds.
@@ -99,6 +76,15 @@ impl Point {
         }
     }
 
+    // All points of a slice, in the order given.
+    pub fn all(points: &[f32]) -> Points<'_>
+        ensures left { points_left result ≡ points_of points.now }
+        ensures runs { YieldsInOrder (YieldsFirst points_left) points_left }
+        ensures fits { length (points_left result) < 2 ^ 64 }
+    {
+        Points { rest: points }
+    }
+
     // The normal's length, in f32 and not in f64.
     fn length(self) -> f32
         ensures { result ≡ length_of self }
@@ -110,32 +96,24 @@ impl Point {
     fn placed(self) -> bool
         ensures { result ≡ placed_of self }
     {
-        if finite(self.at[0]) {
-            if finite(self.at[1]) {
-                return finite(self.at[2]);
-            }
-        }
-        false
+        self.at[0].is_finite() && self.at[1].is_finite() && self.at[2].is_finite()
     }
 
     // Why the point is skipped: the position is looked at first, then the length.
-    pub fn usability(self) -> Usability
+    pub fn usability(self) -> Result<(), Unusable>
         ensures { result ≡ usability_of self }
     {
-        if self.placed() {
-            return judge(self.length());
+        if !self.placed() {
+            return Err(Unusable::PositionNotFinite);
         }
-        Usability::PositionNotFinite
+        judge(self.length())
     }
 
     // Whether it is not skipped. No more than the shadow of `usability`, but the hot loops ask this and take no root.
     pub fn usable(self) -> bool
         ensures { result ≡ usable_of self }
     {
-        if self.placed() {
-            return long(self.normal[0], self.normal[1], self.normal[2]);
-        }
-        false
+        self.placed() && long(self.normal[0], self.normal[1], self.normal[2])
     }
 
     // The position in f64.
@@ -162,19 +140,32 @@ impl Point {
     }
 }
 
+// The points of a slice, one after the other.
+#[derive(Clone, Copy)]
+pub struct Points<'a> {
+    rest: &'a [f32],
+}
+
+impl Iterator for Points<'_> {
+    type Item = Point;
+
+    ghost next_gives = { YieldsFirst points_left };
+
+    ghost remaining = { item_count points_left };
+
+    fn next(&mut self) -> Option<Point> {
+        if self.rest.len() < Point::NUMBERS {
+            return None;
+        }
+        let p = Point::read(self.rest, 0);
+        self.rest = &self.rest[Point::NUMBERS..];
+        Some(p)
+    }
+}
+
 // How many points are usable.
 pub fn usable_count(points: &[f32]) -> usize
     ensures { result ≡ length (usables points.now) }
 {
-    let all = Point::given(points);
-    let mut n = 0usize;
-    let mut i = 0usize;
-    while i < all {
-        let p = Point::read(points, i);
-        if p.usable() {
-            n += 1;
-        }
-        i += 1;
-    }
-    n
+    Point::all(points).filter(|p| p.usable()).count()
 }

@@ -8,19 +8,19 @@ mod rule;
 ghost use Rattle.std.specs.Prelude.{◌≤◌, length};
 ghost use Rattle.points.specs.Points.{given};
 
-use points::{Bounds, Point, Usability};
+use points::{Bounds, Point, Unusable};
 use rule::{Case, Stand};
 use std::io;
 
 // ---- counts
 
-// A number for each reason, in the order of checking.
-fn code(u: Usability) -> u32 {
+// A number for each answer: 0 of a usable point, then the reasons in the order of checking.
+fn code(u: Result<(), Unusable>) -> u32 {
     match u {
-        Usability::Usable => 0,
-        Usability::PositionNotFinite => 1,
-        Usability::LengthNotFinite => 2,
-        Usability::NormalTooShort => 3,
+        Ok(()) => 0,
+        Err(Unusable::PositionNotFinite) => 1,
+        Err(Unusable::LengthNotFinite) => 2,
+        Err(Unusable::NormalTooShort) => 3,
     }
 }
 

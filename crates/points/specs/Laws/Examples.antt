@@ -1,12 +1,12 @@
 -- Edges of document 01's Points and box, by computation: lengths about 1e-12 and the reasons in their order; the box of no points, of one and of two, and
 -- the cube round it. Assumes nothing.
-use Rattle.std.specs.Prelude.{◌≡◌, refl, true, false, [], ◌∷◌, pos, Float}
+use Rattle.std.specs.Prelude.{◌≡◌, refl, true, false, [], ◌∷◌, pos, Ok, Err, Float}
 use Rattle.std.specs.Float.{nan, inf, fin, binary32, binary64}
 use Rattle.std.specs.Float.Ieee.{of_bits, round, neg, add, sub, mul, div, lt, is_nan}
 use Rattle.numbers.specs.Constants.{trillionth32}
 use Rattle.numbers.specs.Arithmetic.{rooted}
 use Rattle.points.specs.declared.point.Point.{Point}
-use Rattle.points.specs.declared.point.Usability.TheVariants.{Usable, PositionNotFinite, LengthNotFinite, NormalTooShort}
+use Rattle.points.specs.declared.point.Unusable.TheVariants.{PositionNotFinite, LengthNotFinite, NormalTooShort}
 use Rattle.points.specs.Points.{length_of, length_usability, placed_of, usability_of}
 use Rattle.points.specs.Box.{reached, no_bounds, bounds_of, extent_of, side_of, origin_of}
 
@@ -38,14 +38,14 @@ placed x = record { at = x ∷ O ∷ O ∷ []; normal = O ∷ O ∷ I ∷ [] }
 -- ---- the reasons, in their order
 
 pub reasons :
-    (usability_of (turned trillionth32) ≡ Usable)  -- the f32 nearest 1e-12, which is below it
-    × (usability_of (turned (of_bits binary32 0x2B8C_BCCB)) ≡ NormalTooShort)  -- one step shorter
-    × (usability_of (turned O) ≡ NormalTooShort)
-    × (usability_of (turned huge) ≡ LengthNotFinite)  -- a finite normal whose length overflows
-    × (usability_of (turned nan) ≡ LengthNotFinite)
-    × (usability_of (placed nan) ≡ PositionNotFinite)
-    × (usability_of (placed (inf true)) ≡ PositionNotFinite)
-    × (usability_of (record { at = O ∷ nan ∷ O ∷ []; normal = nan ∷ O ∷ O ∷ [] }) ≡ PositionNotFinite)  -- the position comes first
+    (usability_of (turned trillionth32) ≡ Ok tt)  -- the f32 nearest 1e-12, which is below it
+    × (usability_of (turned (of_bits binary32 0x2B8C_BCCB)) ≡ Err NormalTooShort)  -- one step shorter
+    × (usability_of (turned O) ≡ Err NormalTooShort)
+    × (usability_of (turned huge) ≡ Err LengthNotFinite)  -- a finite normal whose length overflows
+    × (usability_of (turned nan) ≡ Err LengthNotFinite)
+    × (usability_of (placed nan) ≡ Err PositionNotFinite)
+    × (usability_of (placed (inf true)) ≡ Err PositionNotFinite)
+    × (usability_of (record { at = O ∷ nan ∷ O ∷ []; normal = nan ∷ O ∷ O ∷ [] }) ≡ Err PositionNotFinite)  -- the position comes first
 unfolding usability_of length_usability placed_of length_of rooted of_bits round add mul lt
 reasons = (refl, refl, refl, refl, refl, refl, refl, refl)
 

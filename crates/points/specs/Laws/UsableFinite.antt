@@ -1,11 +1,11 @@
 -- A usable point's position is finite, and every point of the list of usable points is usable. By the order of the checks. Assumes nothing.
-use Rattle.std.specs.Prelude.{◌≡◌, refl, Bool, true, false, cond, ◌&&◌, List, [], ◌∷◌, ℕ, Float}
+use Rattle.std.specs.Prelude.{◌≡◌, refl, Bool, true, false, cond, ◌&&◌, List, [], ◌∷◌, ℕ, Err, is_ok, Float}
 use Rattle.std.proofs.lemmas.Bool.{false≢true}
 use Rattle.std.specs.Float.Ieee.Scale.{finite}
 use Rattle.lists.specs.Lists.{tabulate, at}
 use Rattle.points.specs.declared.point.Point.{Point}
-use Rattle.points.specs.declared.point.Usability.TheVariants.{PositionNotFinite}
-use Rattle.points.specs.Points.{point_at, length_of, length_usability, placed_of, usability_of, is_usable, usable_of, usable_among, usable_to}
+use Rattle.points.specs.declared.point.Unusable.TheVariants.{PositionNotFinite}
+use Rattle.points.specs.Points.{point_at, length_of, length_usability, placed_of, usability_of, usable_of, usable_among, usable_to}
 
 -- ---- one point
 
@@ -18,7 +18,7 @@ placed : (p : Point) → usable_of p ≡ true → placed_of p ≡ true
 unfolding usable_of usability_of
 placed p h = go (placed_of p) h
   where
-    go : (b : Bool) → is_usable (cond b (length_usability (length_of p)) PositionNotFinite) ≡ true → b ≡ true
+    go : (b : Bool) → is_ok (cond b (length_usability (length_of p)) (Err PositionNotFinite)) ≡ true → b ≡ true
     go true h = refl
     go false h = h
 

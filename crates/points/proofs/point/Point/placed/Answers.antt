@@ -1,16 +1,14 @@
 -- `points::Point::placed`: the three tests in the definition's order. Assumes nothing.
-use Rattle.std.proofs.Common.{sym, ◌∙◌}
+use Rattle.std.proofs.Common.{rules}
+use Rattle.lists.specs.Lists.{at}
 use Rattle.points.specs.Points.{placed_of}
+use Rattle.points.proofs.FiniteTest.{finite_is}
 use Rattle.points.proofs.point.Point.placed.Goals as goal
 
-pub returns-then-finite-2 : goal.returns-then-finite-2
+pub returns-then-is_finite-2 : goal.returns-then-is_finite-2
 unfolding placed_of
-returns-then-finite-2 c = rw (sym c.finite.ensures ∙ c.if-finite.true, sym c.finite-then-finite.ensures ∙ c.if-finite-2.true) c.finite-then-finite-2.ensures
+returns-then-is_finite-2 c = rw (← finite_is (at c.args.self.at 0), ← finite_is (at c.args.self.at 1), ← finite_is (at c.args.self.at 2)) (search rules)
 
-pub returns-else-finite-2 : goal.returns-else-finite-2
+pub returns-else-is_finite-2 : goal.returns-else-is_finite-2
 unfolding placed_of
-returns-else-finite-2 c = rw (sym c.finite.ensures ∙ c.if-finite.true, sym c.finite-then-finite.ensures ∙ c.if-finite-2.false)
-
-pub returns-else-finite : goal.returns-else-finite
-unfolding placed_of
-returns-else-finite c = rw (sym c.finite.ensures ∙ c.if-finite.false)
+returns-else-is_finite-2 c = rw (← finite_is (at c.args.self.at 0), ← finite_is (at c.args.self.at 1), ← finite_is (at c.args.self.at 2)) (search rules)

@@ -1,12 +1,12 @@
 -- `points::Point::usability`: the position's test, then what the length says. Assumes nothing.
-use Rattle.std.proofs.Common.{sym, ◌∙◌}
+use Rattle.std.proofs.Common.{◌≡◌, false, rules}
 use Rattle.points.specs.Points.{usability_of}
 use Rattle.points.proofs.point.Point.usability.Goals as goal
 
-pub returns-then-placed : goal.returns-then-placed
+pub returns-then-not-placed : goal.returns-then-not-placed
 unfolding usability_of
-returns-then-placed c = rw (sym c.placed.ensures ∙ c.if-placed.true, c.judge.ensures, c.length.ensures)
+returns-then-not-placed c = let no : c.placed.result ≡ false = search rules in rw (← c.placed.ensures, no)
 
 pub returns : goal.returns
 unfolding usability_of
-returns c = rw (sym c.placed.ensures ∙ c.if-placed.false)
+returns c = rw (← c.placed.ensures, c.if-not-placed.false, c.judge.ensures, c.length.ensures)

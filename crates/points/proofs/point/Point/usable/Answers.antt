@@ -7,6 +7,6 @@ pub returns-then-placed : goal.returns-then-placed
 unfolding usable_of usability_of length_of
 returns-then-placed c = rw (sym c.placed.ensures ∙ c.if-placed.true) c.long.ensures
 
-pub returns : goal.returns
+pub returns-else-placed : goal.returns-else-placed
 unfolding usable_of usability_of length_of
-returns c = rw (sym c.placed.ensures ∙ c.if-placed.false)
+returns-else-placed c = rw (sym c.placed.ensures ∙ c.if-placed.false) c.if-placed.false
