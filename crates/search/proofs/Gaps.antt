@@ -7,20 +7,20 @@ use Prim.Native.Nat.{ℕ, zero, suc, ◌+◌, ◌/◌, ◌%◌, ◌≤◌, ◌<�
 use native.Mathlib.Nat.{add-zero, zero-add}
 use native.Mathlib.Omega.{arith}
 use lib.Dec.{eqb}
+use Rattle.std.specs.Prelude.{Option, Some, None}
 use lib.ListN.{length, get_or, take, length-append}
-use lib.Seq.{get_or-take}
+use lib.Seq.{append_snoc, get_or-take}
 use lib.Ieee.{Float, nan, lt}
 use Rattle.lists.specs.Lists.{zero32}
 use Rattle.lists.specs.Laws.Fold.{fold_snoc}
 use Rattle.lists.specs.EveryNth.{every_from}
 use Rattle.points.specs.declared.point.Point.{Point}
-use Rattle.search.specs.declared.neighbours.Gap.{Gap}
-use Rattle.search.specs.declared.neighbours.Gap.TheVariants.{Found, Nothing}
-use Rattle.points.specs.Points.{given, point_at, usable_of, usable_to, usables}
+use Rattle.points.specs.Points.{given, points_of, usable_of, usable_among, usables}
 use Rattle.search.specs.Search.{inserted, sorted}
 use Rattle.search.specs.Spacing.{gap_at, listed, gaps_among, gaps_by, median_of}
 use Rattle.search.specs.Words.{put_gap, size_of, gap_by}
-use Rattle.points.specs.Laws.UsableLoop.{used, skipped, usable_none}
+use Rattle.points.specs.Laws.UsableLoop.{among_snoc, count_le}
+use Rattle.points.specs.Laws.AllPoints.{length_points, usables_are, among_le}
 
 -- ---- one point more
 
@@ -40,80 +40,85 @@ every_snoc s i (x ∷ l) p =
     go false true r = refl
     go false false r = refl
 
-among_snoc : (ps l : List Point) (p : Point) → gaps_among ps (l ++ (p ∷ [])) ≡ gaps_among ps l ++ listed (gap_at ps p)
+gaps_snoc_among : (ps l : List Point) (p : Point) → gaps_among ps (l ++ (p ∷ [])) ≡ gaps_among ps l ++ listed (gap_at ps p)
 unfolding gaps_among
-among_snoc ps [] p = append-nil (listed (gap_at ps p))
-among_snoc ps (x ∷ l) p = rw (among_snoc ps l p) (sym (append_assoc (listed (gap_at ps x)) (gaps_among ps l) (listed (gap_at ps p))))
+gaps_snoc_among ps [] p = append-nil (listed (gap_at ps p))
+gaps_snoc_among ps (x ∷ l) p = rw (gaps_snoc_among ps l p) (sym (append_assoc (listed (gap_at ps x)) (gaps_among ps l) (listed (gap_at ps p))))
 
 gaps_snoc : (s : ℕ) (ps l : List Point) (p : Point) → gaps_by s ps (l ++ (p ∷ [])) ≡ gaps_by s ps l ++ listed (gap_by s (length l) ps p)
 gaps_snoc s ps l p = rw (every_snoc s 0 l p, zero-add (length l)) (go (eqb (length l % s) 0))
   where
-    go : (b : Bool) → gaps_among ps (cond b (every_from s 0 l ++ (p ∷ [])) (every_from s 0 l)) ≡ gaps_by s ps l ++ listed (cond b (gap_at ps p) Nothing)
-    go true = among_snoc ps (every_from s 0 l) p
+    go : (b : Bool) → gaps_among ps (cond b (every_from s 0 l ++ (p ∷ [])) (every_from s 0 l)) ≡ gaps_by s ps l ++ listed (cond b (gap_at ps p) None)
+    go true = gaps_snoc_among ps (every_from s 0 l) p
     go false = sym (append-nil (gaps_by s ps l))
 
 -- ---- one gap more
 
-put_sorted : (l : List Float) (g : Gap) → sorted lt (l ++ listed g) ≡ put_gap (sorted lt l) g
+put_sorted : (l : List Float) (g : Option Float) → sorted lt (l ++ listed g) ≡ put_gap (sorted lt l) g
 unfolding sorted
-put_sorted l Nothing = ap (sorted lt) (append-nil l)
-put_sorted l (Found d) = fold_snoc (inserted lt) [] l d
+put_sorted l None = ap (sorted lt) (append-nil l)
+put_sorted l (Some d) = fold_snoc (inserted lt) [] l d
 
-size_more : (l : List Float) (g : Gap) → length (l ++ listed g) ≡ length l + size_of g
-size_more l Nothing = length-append l []
-size_more l (Found d) = length-append l (d ∷ [])
+size_more : (l : List Float) (g : Option Float) → length (l ++ listed g) ≡ length l + size_of g
+size_more l None = length-append l []
+size_more l (Some d) = length-append l (d ∷ [])
 
-size_small : (g : Gap) → size_of g ≤ 1
-size_small Nothing = omega arith
-size_small (Found d) = omega arith
+size_small : (g : Option Float) → size_of g ≤ 1
+size_small None = omega arith
+size_small (Some d) = omega arith
 
--- ---- the loop: the first m numbers of the list are the gaps of the usable ones of the first i points, ascending
+-- ---- the loop: the first m numbers of the list are the gaps of the usable ones among the points that were given, ascending
 
-pub record Gathered (s : ℕ) (xs list₀ list : List Float) (m seen i : ℕ) : Type 0 where
-  pub front : take m list ≡ sorted lt (gaps_by s (usables xs) (usable_to xs i))
-  pub size : m ≡ length (gaps_by s (usables xs) (usable_to xs i))
-  pub count : seen ≡ length (usable_to xs i)
+pub record Gathered (s : ℕ) (xs list₀ list : List Float) (m seen : ℕ) (past left : List Point) : Type 0 where
+  pub front : take m list ≡ sorted lt (gaps_by s (usables xs) (usable_among past))
+  pub size : m ≡ length (gaps_by s (usables xs) (usable_among past))
+  pub count : seen ≡ length (usable_among past)
   pub few : m ≤ seen
   pub same : length list ≡ length list₀
-  pub within : i ≤ given xs
+  pub all : points_of xs ≡ past ++ left
 
-pub gathered_none : (s : ℕ) (xs list : List Float) → Gathered s xs list list 0 0 0
-gathered_none s xs list =
-    record {
-      front = rw (usable_none xs) (unfold sorted gaps_among in refl);
-      size = rw (usable_none xs) (unfold gaps_among in refl);
-      count = rw (usable_none xs);
-      few = omega arith;
-      same = refl;
-      within = omega arith;
-    }
+pub gathered_none : {s : ℕ} {xs list : List Float} {left : List Point} → left ≡ points_of xs → Gathered s xs list list 0 0 [] left
+unfolding sorted gaps_among usable_among
+gathered_none e = record { front = refl; size = refl; count = refl; few = omega arith; same = refl; all = sym e }
 
-module _ {s : ℕ} {xs list₀ list : List Float} {m seen i : ℕ} {p : Point} {b : Bool} (w : Gathered s xs list₀ list m seen i) (here : i < given xs) (is : p ≡ point_at xs i) (test : b ≡ usable_of p) where
-  pub gathered_used : {list' : List Float} {m' : ℕ} → b ≡ true → m' ≡ m + size_of (gap_by s seen (usables xs) p) → take m' list' ≡ put_gap (take m list) (gap_by s seen (usables xs) p)
-      → length list' ≡ length list → Gathered s xs list₀ list' m' (seen + 1) (i + 1)
-  gathered_used {list'} {m'} t hm hl hs =
-      let ps = usables xs in
-      let g = gap_by s seen ps p in
-      let l = usable_to xs i in
-      record {
-        front = rw (used xs i is test t, gaps_snoc s ps l p, ← w.count, put_sorted (gaps_by s ps l) g, ← w.front) hl;
-        size = rw (used xs i is test t, gaps_snoc s ps l p, ← w.count, size_more (gaps_by s ps l) g, ← w.size) hm;
-        count = rw (used xs i is test t) (omega (arith, w.count, length-append l (p ∷ [])));
-        few = omega (arith, size_small g, w.few);
-        same = hs ∙ w.same;
-        within = omega arith;
-      }
+module _ {s : ℕ} {xs list₀ list : List Float} {m seen : ℕ} {past left left' : List Point} {p : Point} (w : Gathered s xs list₀ list m seen past left) (next : left ≡ p ∷ left') where
+  -- one point more has been given
+  on : points_of xs ≡ (past ++ (p ∷ [])) ++ left'
+  on = w.all ∙ rw (next, append_snoc past p)
 
-  pub gathered_skipped : b ≡ false → Gathered s xs list₀ list m seen (i + 1)
-  gathered_skipped t =
-      record {
-        front = rw (skipped xs i is test t) w.front;
-        size = rw (skipped xs i is test t) w.size;
-        count = rw (skipped xs i is test t) w.count;
-        few = w.few;
-        same = w.same;
-        within = omega arith;
-      }
+  -- so fewer were seen before than the slice has
+  pub seen_few : seen < given xs
+  seen_few = omega (arith, w.count, among_le past, length_points xs, ap length w.all, length-append past left, ap length next)
+
+  module _ {b : Bool} (test : b ≡ usable_of p) where
+    pub gathered_used : {list' : List Float} {m' : ℕ} → b ≡ true → m' ≡ m + size_of (gap_by s seen (usables xs) p)
+        → take m' list' ≡ put_gap (take m list) (gap_by s seen (usables xs) p) → length list' ≡ length list → Gathered s xs list₀ list' m' (seen + 1) (past ++ (p ∷ [])) left'
+    gathered_used {list'} {m'} t hm hl hs =
+        let ps = usables xs in
+        let g = gap_by s seen ps p in
+        let l = usable_among past in
+        let more : usable_among (past ++ (p ∷ [])) ≡ l ++ (p ∷ []) = among_snoc past p ∙ rw (sym test ∙ t) in
+        record {
+          front = rw (more, gaps_snoc s ps l p, ← w.count, put_sorted (gaps_by s ps l) g, ← w.front) hl;
+          size = rw (more, gaps_snoc s ps l p, ← w.count, size_more (gaps_by s ps l) g, ← w.size) hm;
+          count = rw more (omega (arith, w.count, length-append l (p ∷ [])));
+          few = omega (arith, size_small g, w.few);
+          same = hs ∙ w.same;
+          all = on;
+        }
+
+    pub gathered_skipped : b ≡ false → Gathered s xs list₀ list m seen (past ++ (p ∷ [])) left'
+    gathered_skipped t =
+        let more : usable_among (past ++ (p ∷ [])) ≡ usable_among past = among_snoc past p ∙ rw (sym test ∙ t) in
+        record { front = rw more w.front; size = rw more w.size; count = rw more w.count; few = w.few; same = w.same; all = on }
+
+-- all have been given
+pub gathered_all : {s : ℕ} {xs list₀ list : List Float} {m seen : ℕ} {past left : List Point} → Gathered s xs list₀ list m seen past left → left ≡ []
+    → (m ≡ length (gaps_by s (usables xs) (usables xs))) × (m ≤ given xs) × (take m list ≡ sorted lt (gaps_by s (usables xs) (usables xs)))
+gathered_all {s} {xs} {past = past} w e =
+    let whole : usable_among past ≡ usables xs = ap usable_among (sym (append-nil past) ∙ ap (λ (l : List Point). past ++ l) (sym e) ∙ sym w.all) ∙ usables_are xs in
+    let few : length (usables xs) ≤ given xs = count_le xs (given xs) in
+    (w.size ∙ ap (λ (l : List Point). length (gaps_by s (usables xs) l)) whole, omega (arith, w.few, w.count, ap length whole, few), w.front ∙ ap (λ (l : List Point). sorted lt (gaps_by s (usables xs) l)) whole)
 
 -- ---- the median
 

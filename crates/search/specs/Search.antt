@@ -1,7 +1,8 @@
 -- Document 01, "Spacing" and "trim": what a search among the usable points answers, for every query place, infinite and NaN ones too.
 -- The brute loops meet it, and so must any faster search. Definitions only; assumes nothing.
-use Rattle.std.specs.Prelude.{Bool, false, cond, not, ◌&&◌, ◌||◌, Float}
+use Rattle.std.specs.Prelude.{Bool, cond, not, ◌&&◌, ◌||◌, Float}
 use mathlib.Core.List.{List, [], ◌∷◌, map, foldl}
+use Rattle.std.specs.List.{list_any}
 use Rattle.std.specs.Float.{binary32}
 use Rattle.std.specs.Float.Ieee.{sub, lt, le, is_nan}
 use Rattle.numbers.specs.Arithmetic.{rooted}
@@ -50,8 +51,7 @@ nearest_of ps q = least_of (sorted before (map (distance_of q) ps))
 
 -- whether some point passes a test
 unfoldable pub any_of : (Point → Bool) → List Point → Bool
-any_of test [] = false
-any_of test (p ∷ ps) = test p || any_of test ps
+any_of test ps = list_any test ps
 
 unfoldable pub within_of : List Point → List Float → Float → Bool
 within_of ps q limit = any_of (λ p. le (square_of q p) limit) ps

@@ -1,5 +1,5 @@
 -- Document 01, "Spacing", in its order. Definitions only; assumes nothing.
-use Rattle.std.specs.Prelude.{cond, List, [], ◌∷◌, ◌++◌, ℕ, ◌/◌, length, get_or, Float}
+use Rattle.std.specs.Prelude.{cond, Option, Some, None, List, [], ◌∷◌, ◌++◌, ℕ, ◌/◌, length, get_or, Float}
 use Rattle.std.specs.Float.{binary64}
 use Rattle.std.specs.Float.Ieee.{mul, lt}
 use Rattle.numbers.specs.Constants.{millionth64}
@@ -9,28 +9,26 @@ use Rattle.lists.specs.EveryNth.{stride_for, every_from}
 use Rattle.points.specs.declared.point.Point.{Point}
 use Rattle.search.specs.declared.brute.Least.{Least}
 use Rattle.search.specs.declared.brute.Least.TheVariants.{Empty, One, Two}
-use Rattle.search.specs.declared.neighbours.Gap.{Gap}
-use Rattle.search.specs.declared.neighbours.Gap.TheVariants.{Found, Nothing}
 use Rattle.search.specs.Search.{nearest_of, sorted}
 
 -- ---- each gives the first positive of its two smallest distances, itself included
 
-abbrev pub positive_or : Float → Gap → Gap
-positive_or d g = cond (lt zero32 d) (Found d) g
+abbrev pub positive_or : Float → Option Float → Option Float
+positive_or d g = cond (lt zero32 d) (Some d) g
 
-abbrev pub first_positive : Least → Gap
-first_positive Empty = Nothing
-first_positive (One a) = positive_or a Nothing
-first_positive (Two a b) = positive_or a (positive_or b Nothing)
+abbrev pub first_positive : Least → Option Float
+first_positive Empty = None
+first_positive (One a) = positive_or a None
+first_positive (Two a b) = positive_or a (positive_or b None)
 
 -- what point p gives, among the points ps
-unfoldable pub gap_at : List Point → Point → Gap
+unfoldable pub gap_at : List Point → Point → Option Float
 gap_at ps p = first_positive (nearest_of ps p.at)
 
 -- none or one number
-abbrev pub listed : Gap → List Float
-listed Nothing = []
-listed (Found d) = d ∷ []
+abbrev pub listed : Option Float → List Float
+listed None = []
+listed (Some d) = d ∷ []
 
 -- what the points l give, among ps
 unfoldable pub gaps_among : List Point → List Point → List Float

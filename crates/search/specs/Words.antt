@@ -1,11 +1,9 @@
 -- Words for the contracts of this crate's inner functions: one number, one gap more. No caller sees them, and no definition rests on them.
-use Rattle.std.specs.Prelude.{Bool, true, cond, ◌||◌, List, ℕ, ◌%◌, eqb, Float}
+use Rattle.std.specs.Prelude.{Bool, true, cond, Option, Some, None, ◌||◌, List, ℕ, ◌%◌, eqb, Float}
 use Rattle.std.specs.Float.Ieee.{lt}
 use Rattle.points.specs.declared.point.Point.{Point}
 use Rattle.search.specs.declared.brute.Least.{Least}
 use Rattle.search.specs.declared.brute.Least.TheVariants.{Empty, One, Two}
-use Rattle.search.specs.declared.neighbours.Gap.{Gap}
-use Rattle.search.specs.declared.neighbours.Gap.TheVariants.{Found, Nothing}
 use Rattle.search.specs.Search.{inserted}
 use Rattle.search.specs.Spacing.{gap_at}
 
@@ -32,14 +30,14 @@ least_map f (Two a b) = Two (f a) (f b)
 -- ---- gaps in ascending order
 
 -- one gap more, if there is one, and how many numbers that is
-abbrev pub put_gap : List Float → Gap → List Float
-put_gap l Nothing = l
-put_gap l (Found d) = inserted lt l d
+abbrev pub put_gap : List Float → Option Float → List Float
+put_gap l None = l
+put_gap l (Some d) = inserted lt l d
 
-abbrev pub size_of : Gap → ℕ
-size_of Nothing = 0
-size_of (Found d) = 1
+abbrev pub size_of : Option Float → ℕ
+size_of None = 0
+size_of (Some d) = 1
 
 -- what usable point number i gives
-abbrev pub gap_by : ℕ → ℕ → List Point → Point → Gap
-gap_by s i ps p = cond (eqb (i % s) 0) (gap_at ps p) Nothing
+abbrev pub gap_by : ℕ → ℕ → List Point → Point → Option Float
+gap_by s i ps p = cond (eqb (i % s) 0) (gap_at ps p) None

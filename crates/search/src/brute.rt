@@ -9,7 +9,7 @@ ghost use Rattle.search.specs.Words.{least_with, open_to, least_map};
 
 use points::{Point, squares};
 
-// The two smallest numbers of a list, or all if it has fewer.
+// The two smallest numbers of a list, or all if it has fewer. An enum of its own, since three counts are no Option.
 #[derive(Clone, Copy)]
 pub enum Least {
     Empty,
@@ -24,24 +24,11 @@ impl Least {
     {
         match self {
             Least::Empty => Least::One(d),
-            Least::One(a) => {
-                if d < a {
-                    return Least::Two(d, a);
-                }
-                Least::Two(a, d)
-            }
-            Least::Two(a, b) => {
-                if d < a {
-                    if a < b {
-                        return Least::Two(d, a);
-                    }
-                    return Least::Two(d, b);
-                }
-                if d < b {
-                    return Least::Two(a, d);
-                }
-                Least::Two(a, b)
-            }
+            Least::One(a) if d < a => Least::Two(d, a),
+            Least::One(a) => Least::Two(a, d),
+            Least::Two(a, b) if d < a => Least::Two(d, if a < b { a } else { b }),
+            Least::Two(a, b) if d < b => Least::Two(a, d),
+            Least::Two(_, _) => self,
         }
     }
 
@@ -50,14 +37,8 @@ impl Least {
         ensures { result ≡ open_to self d }
     {
         match self {
-            Least::Empty => true,
-            Least::One(a) => true,
-            Least::Two(a, b) => {
-                if d < a {
-                    return true;
-                }
-                d < b
-            }
+            Least::Empty | Least::One(_) => true,
+            Least::Two(a, b) => d < a || d < b,
         }
     }
 
@@ -65,10 +46,8 @@ impl Least {
     fn met(self, p: Point, d: f32) -> Least
         ensures { result ≡ cond (usable_of p) (least_with self d) self }
     {
-        if self.open_to(d) {
-            if p.usable() {
-                return self.with(d);
-            }
+        if self.open_to(d) && p.usable() {
+            return self.with(d);
         }
         self
     }
@@ -96,38 +75,21 @@ fn square(query: [f32; 3], p: Point) -> f32
 pub fn nearest(points: &[f32], query: [f32; 3]) -> Least
     ensures { result ≡ nearest_of (usables points.now) query }
 {
-    let all = Point::given(points);
-    let mut least = Least::Empty;
-    let mut i = 0usize;
-    while i < all {
-        let p = Point::read(points, i);
-        least = least.met(p, square(query, p));
-        i += 1;
-    }
-    least.roots()
+    Point::all(points)
+        .fold(Least::Empty, |least, p| least.met(p, square(query, p)))
+        .roots()
 }
 
 // Whether a point is usable and its square at most the limit. The cheaper test comes first.
 fn reaches(p: Point, query: [f32; 3], limit: f32) -> bool
     ensures { result ≡ usable_of p && Ieee.le (square_of query p) limit }
 {
-    if square(query, p) <= limit {
-        return p.usable();
-    }
-    false
+    square(query, p) <= limit && p.usable()
 }
 
 // Whether some usable point's squared distance from a place is at most the limit.
 pub fn within(points: &[f32], query: [f32; 3], limit: f32) -> bool
     ensures { result ≡ within_of (usables points.now) query limit }
 {
-    let all = Point::given(points);
-    let mut i = 0usize;
-    while i < all {
-        if reaches(Point::read(points, i), query, limit) {
-            return true;
-        }
-        i += 1;
-    }
-    false
+    Point::all(points).any(|p| reaches(p, query, limit))
 }

@@ -1,44 +1,30 @@
 // Document 01, "Spacing": the middle one of the distances between neighbours. Beside the Rust's `median_spacing`.
-ghost use Rattle.std.specs.Prelude.{◌≡◌, ◌+◌, ◌<◌, ◌≤◌, length, take};
+ghost use Rattle.std.specs.Prelude.{◌≡◌, ◌+◌, ◌<◌, ◌≤◌, None, length, take};
 ghost use Rattle.std.specs.Float.Ieee as Ieee;
 ghost use Rattle.lists.specs.Lists.{zeros32};
-ghost use Rattle.lists.specs.EveryNth.{stride_for};
 ghost use Rattle.points.specs.Points.{given, usables};
 ghost use Rattle.search.specs.Search.{inserted, sorted};
-ghost use Rattle.search.specs.Spacing.{first_positive, gaps_by, median_of, spacing_of};
+ghost use Rattle.search.specs.Spacing.{positive_or, first_positive, gaps_by, median_of, spacing_of};
 ghost use Rattle.search.specs.Words.{put_gap, size_of, gap_by};
 
 use crate::brute::{Least, nearest};
 use points::{Point, usable_count};
 
-// A distance, or none.
-#[derive(Clone, Copy)]
-pub enum Gap {
-    Found(f32),
-    Nothing,
+// A distance if it is positive. An infinite one counts.
+fn positive(d: f32) -> Option<f32>
+    ensures { result ≡ positive_or d None }
+{
+    if d > 0.0 { Some(d) } else { None }
 }
 
-// The first of the two that is positive. An infinite one counts.
-fn first_positive(least: Least) -> Gap
+// The first of the two that is positive.
+fn first_positive(least: Least) -> Option<f32>
     ensures { result ≡ first_positive least }
 {
     match least {
-        Least::Empty => Gap::Nothing,
-        Least::One(a) => {
-            if a > 0.0 {
-                return Gap::Found(a);
-            }
-            Gap::Nothing
-        }
-        Least::Two(a, b) => {
-            if a > 0.0 {
-                return Gap::Found(a);
-            }
-            if b > 0.0 {
-                return Gap::Found(b);
-            }
-            Gap::Nothing
-        }
+        Least::Empty => None,
+        Least::One(a) => positive(a),
+        Least::Two(a, b) => positive(a).or(positive(b)),
     }
 }
 
@@ -48,29 +34,27 @@ fn insert(list: &mut [f32], m: usize, d: f32)
     ensures { take (m + 1) list.new ≡ inserted Ieee.lt (take m list.old) d }
 {
     let mut v = d;
-    let mut k = 0usize;
-    while k < m {
+    for k in 0..m {
         let a = list[k];
         if v < a {
             list[k] = v;
             v = a;
         }
-        k += 1;
     }
     list[m] = v;
 }
 
 // A gap put in its place among the first m numbers. How many there are then.
-fn keep(list: &mut [f32], m: usize, g: Gap) -> usize
+fn keep(list: &mut [f32], m: usize, g: Option<f32>) -> usize
     requires { m < length list.old }
     ensures { (result ≡ m + size_of g) × (take result list.new ≡ put_gap (take m list.old) g) }
 {
     match g {
-        Gap::Found(d) => {
+        Some(d) => {
             insert(list, m, d);
             m + 1
         }
-        Gap::Nothing => m,
+        None => m,
     }
 }
 
@@ -94,27 +78,15 @@ fn gaps(points: &[f32], list: &mut [f32], s: usize) -> usize
         × (result ≤ given points.now)
         × (take result list.new ≡ sorted Ieee.lt (gaps_by s (usables points.now) (usables points.now))) }
 {
-    let all = Point::given(points);
     let mut m = 0usize;
     let mut seen = 0usize;
-    let mut i = 0usize;
-    while i < all {
-        let p = Point::read(points, i);
+    for p in Point::all(points) {
         if p.usable() {
             m = pick(points, list, s, m, seen, p);
             seen += 1;
         }
-        i += 1;
     }
     m
-}
-
-// Every how many-th usable point is asked: about a thousand of them.
-fn stride(points: &[f32]) -> usize
-    ensures { result ≡ stride_for 1000 (length (usables points.now)) }
-{
-    let s = usable_count(points) / 1000;
-    if s < 1 { 1 } else { s }
 }
 
 // The gap of rank length/2, counted from 0, and 0 where there is none.
@@ -123,19 +95,17 @@ fn median(points: &[f32], list: &mut [f32], s: usize) -> f32
     ensures { result ≡ median_of (gaps_by s (usables points.now) (usables points.now)) }
 {
     let m = gaps(points, list, s);
-    if 0 < m {
-        return list[m / 2];
-    }
-    0.0
+    if 0 < m { list[m / 2] } else { 0.0 }
 }
 
-// The spacing of the usable points, whose largest extent is given. The list, one number for each given point, holds the distances on the way and zeros at
-// the end.
+// The spacing of the usable points, whose largest extent is given: about a thousand of them are asked. The list, one number for each given point, holds
+// the distances on the way and zeros at the end.
 pub fn spacing(points: &[f32], list: &mut [f32], extent: f64) -> f64
     requires { given points.now ≤ length list.old }
     ensures { (result ≡ spacing_of (usables points.now) extent) × (list.new ≡ zeros32 (length list.old)) }
 {
-    let middle = median(points, list, stride(points));
-    lists::clear(list);
+    let s = lists::stride_for(1000, usable_count(points));
+    let middle = median(points, list, s);
+    lists::clear_f32(list);
     arith::largest(arith::widen(middle), extent * 0.000001)
 }

@@ -1,7 +1,8 @@
--- The points of a slice one after the other, as the iterator of `Point::all` gives them: how many (`length_points`), none where fewer numbers are left than a point has
--- (`points_none`), else the first and those of the rest (`points_more`); so the iterator gives them all, in order (`points_run`). What a chain over it
--- answers is said by std's `fold`, which is the definitions' `foldl` (`fold_is`). Assumes nothing.
-use Rattle.std.specs.Prelude.{◌≡◌, refl, ℕ, suc, ◌+◌, ◌*◌, ◌≤◌, ◌<◌, length, drop, Float}
+-- The points of a slice one after the other, as the iterator of `Point::all` gives them: how many (`length_points`), none where fewer numbers are left
+-- than a point has (`points_none`), else the first and those of the rest (`points_more`); so the iterator gives them all, in order (`points_run`). The
+-- usable ones among them are `usables` (`usables_are`). A chain's `fold` is the definitions' `foldl` (`fold_is`), and over the usable points it is one that
+-- leaves the others out (`fold_usable`). Assumes nothing.
+use Rattle.std.specs.Prelude.{◌≡◌, refl, Bool, true, false, cond, ℕ, suc, ◌+◌, ◌*◌, ◌≤◌, ◌<◌, length, drop, Float}
 use Rattle.std.specs.Float.{nan}
 use Rattle.std.specs.List.{fold}
 use Rattle.std.specs.Iterator.{YieldsFirst}
@@ -13,7 +14,7 @@ use mathlib.Core.List.{List, [], ◌∷◌, foldl}
 use Rattle.lists.specs.Lists.{tabulate, at}
 use Rattle.lists.specs.Laws.Tabulate.{length_tabulate, tabulate_ext}
 use Rattle.points.specs.declared.point.Point.{Point}
-use Rattle.points.specs.Points.{given, point_at, points_of, points_left}
+use Rattle.points.specs.Points.{given, point_at, points_of, points_left, usable_of, usable_among, usable_to, usables}
 
 -- ---- a slice's points
 
@@ -44,6 +45,20 @@ points_more xs h =
     ap (λ (n : ℕ). tabulate n (point_at xs)) count
     ∙ ap (λ (l : List Point). point_at xs 0 ∷ l) (tabulate_ext (given (drop 6 xs)) (λ k. point_at xs (suc k)) (point_at (drop 6 xs)) (λ k h. later xs k))
 
+-- the usable ones among them
+pub usables_are : (xs : List Float) → usable_among (points_of xs) ≡ usables xs
+unfolding points_of usable_to
+usables_are xs = refl
+
+pub among_le : (l : List Point) → length (usable_among l) ≤ length l
+unfolding usable_among
+among_le [] = omega arith
+among_le (p ∷ l) = go (usable_of p) (among_le l)
+  where
+    go : (b : Bool) → length (usable_among l) ≤ length l → length (cond b (p ∷ usable_among l) (usable_among l)) ≤ suc (length l)
+    go true h = omega (arith, h)
+    go false h = omega (arith, h)
+
 -- ---- the iterator, and a fold over what it gives
 
 pub points_run : YieldsInOrder (YieldsFirst points_left) points_left
@@ -52,3 +67,17 @@ points_run p s = as_is p (points_left p.from) (from_front (YieldsFirst points_le
 pub fold_is : {A B : Type 0} (f : B → A → B) (z : B) (l : List A) → fold f z l ≡ foldl f z l
 fold_is f z [] = refl
 fold_is f z (x ∷ l) = fold_is f (f z x) l
+
+module _ {B : Type 0} (f : B → Point → B) where
+  pub fold_usable : (z : B) (l : List Point) → fold (λ s p. cond (usable_of p) (f s p) s) z l ≡ foldl f z (usable_among l)
+  unfolding usable_among
+  fold_usable z [] = refl
+  fold_usable z (p ∷ l) = go (usable_of p) (fold_usable (f z p) l) (fold_usable z l)
+    where
+      keep : B → Point → B
+      keep s q = cond (usable_of q) (f s q) s
+
+      go : (b : Bool) → fold keep (f z p) l ≡ foldl f (f z p) (usable_among l) → fold keep z l ≡ foldl f z (usable_among l)
+          → fold keep (cond b (f z p) z) l ≡ foldl f z (cond b (p ∷ usable_among l) (usable_among l))
+      go true used skipped = used
+      go false used skipped = skipped

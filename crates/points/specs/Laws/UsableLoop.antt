@@ -12,7 +12,7 @@ use Rattle.points.specs.Points.{given, point_at, usable_of, usable_among, usable
 
 -- ---- one point more
 
-among_snoc : (l : List Point) (p : Point) → usable_among (l ++ (p ∷ [])) ≡ cond (usable_of p) (usable_among l ++ (p ∷ [])) (usable_among l)
+pub among_snoc : (l : List Point) (p : Point) → usable_among (l ++ (p ∷ [])) ≡ cond (usable_of p) (usable_among l ++ (p ∷ [])) (usable_among l)
 unfolding usable_among
 among_snoc [] p = refl
 among_snoc (x ∷ l) p = rw (among_snoc l p) (go (usable_of x) (usable_of p) (usable_among l))

@@ -1,12 +1,11 @@
 -- Edges of document 01's search and Spacing, by computation: infinite and NaN distances; at most, not less; doubles; strides; ranks. Assumes nothing.
-use Rattle.std.specs.Prelude.{◌≡◌, refl, true, false, [], ◌∷◌, pos, Float}
+use Rattle.std.specs.Prelude.{◌≡◌, refl, Some, None, true, false, [], ◌∷◌, pos, Float}
 use Rattle.std.specs.Float.{nan, inf, fin}
 use Rattle.std.specs.Float.Ieee.{of_bits, neg, add, sub, mul, lt, le, is_nan}
 use Rattle.numbers.specs.Arithmetic.{rooted}
 use Rattle.lists.specs.EveryNth.{stride_for, every_from}
 use Rattle.points.specs.declared.point.Point.{Point}
 use Rattle.search.specs.declared.brute.Least.TheVariants.{Empty, One, Two}
-use Rattle.search.specs.declared.neighbours.Gap.TheVariants.{Found, Nothing}
 use Rattle.search.specs.Search.{square_of, sorted, nearest_of, any_of, within_of}
 use Rattle.search.specs.Spacing.{gap_at, median_of}
 
@@ -56,10 +55,10 @@ within = (refl, refl, refl, refl, refl)
 -- ---- gaps, strides and ranks
 
 pub gaps :
-    (gap_at (placed O ∷ placed III ∷ []) (placed O) ≡ Found III)
-    × (gap_at (placed O ∷ placed O ∷ placed III ∷ []) (placed O) ≡ Nothing)  -- an exact double gives none
-    × (gap_at (placed O ∷ placed huge ∷ []) (placed O) ≡ Found (inf false))
-    × (gap_at (placed O ∷ []) (placed O) ≡ Nothing)
+    (gap_at (placed O ∷ placed III ∷ []) (placed O) ≡ Some III)
+    × (gap_at (placed O ∷ placed O ∷ placed III ∷ []) (placed O) ≡ None)  -- an exact double gives none
+    × (gap_at (placed O ∷ placed huge ∷ []) (placed O) ≡ Some (inf false))
+    × (gap_at (placed O ∷ []) (placed O) ≡ None)
 unfolding gap_at nearest_of sorted square_of rooted is_nan of_bits sub add neg mul lt
 gaps = (refl, refl, refl, refl)
 

@@ -1,7 +1,7 @@
 -- The spacing's two lists are ascending, whatever the points: the distances of a query in the order `before` (`distances_ascend`), the gaps in the order
 -- `lt` (`gaps_ascend`). So the median of the gaps is the one of rank length/2 (`median_gap`). For a distance is NaN or has a plus sign, infinity too; and
 -- a gap is above zero, which NaN is not. No function's proof needs this: it says that the definitions are right. Assumes nothing.
-use Rattle.std.specs.Prelude.{◌≡◌, Bool, cond, not, ◌&&◌, ◌||◌, List, [], ◌∷◌, ◌++◌, map, ℕ, ◌/◌, ◌<◌, length, Float}
+use Rattle.std.specs.Prelude.{Option, Some, None, ◌≡◌, Bool, cond, not, ◌&&◌, ◌||◌, List, [], ◌∷◌, ◌++◌, map, ℕ, ◌/◌, ◌<◌, length, Float}
 use Rattle.std.proofs.Math.Path.{refl}
 use Rattle.std.proofs.Common.{sym, ◌∙◌, true≢false, arith}
 use Rattle.std.proofs.Math.Bool.{true, false}
@@ -17,8 +17,6 @@ use Rattle.points.specs.declared.point.Point.{Point}
 use Rattle.points.specs.Laws.SquaresHeld.{squares_held}
 use Rattle.search.specs.declared.brute.Least.{Least}
 use Rattle.search.specs.declared.brute.Least.TheVariants.{Empty, One, Two}
-use Rattle.search.specs.declared.neighbours.Gap.{Gap}
-use Rattle.search.specs.declared.neighbours.Gap.TheVariants.{Found, Nothing}
 use Rattle.search.specs.Search.{square_of, distance_of, before, sorted, nearest_of}
 use Rattle.search.specs.Spacing.{positive_or, first_positive, gap_at, listed, gaps_among, gaps_by, median_of}
 use Rattle.search.specs.Laws.Ascending.{Each, Ascends, Order, ascends, Ranked, rank}
@@ -110,17 +108,17 @@ less_order =
           le_not a c p.kind r.kind (le_trans a b c p.kind q.kind r.kind ab bc);
     }
 
-positive : (d : Float) (g : Gap) → Each Above (listed g) → Each Above (listed (positive_or d g))
+positive : (d : Float) (g : Option Float) → Each Above (listed g) → Each Above (listed (positive_or d g))
 positive d g u = go (lt zero32 d) refl
   where
-    go : (b : Bool) → lt zero32 d ≡ b → Each Above (listed (cond b (Found d) g))
+    go : (b : Bool) → lt zero32 d ≡ b → Each Above (listed (cond b (Some d) g))
     go true e = (above d e, tt)
     go false e = u
 
 first_positive_lem : (l : Least) → Each Above (listed (first_positive l))
 first_positive_lem Empty = tt
-first_positive_lem (One a) = positive a Nothing tt
-first_positive_lem (Two a b) = positive a (positive_or b Nothing) (positive b Nothing tt)
+first_positive_lem (One a) = positive a None tt
+first_positive_lem (Two a b) = positive a (positive_or b None) (positive b None tt)
 
 both : (a b : List Float) → Each Above a → Each Above b → Each Above (a ++ b)
 both [] b p q = q

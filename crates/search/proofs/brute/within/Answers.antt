@@ -1,27 +1,21 @@
--- `search::within`: no usable point passed so far, or one does. Assumes nothing.
-use Rattle.std.proofs.Common.{ap, arith, sym, ℕ, ◌∙◌, ◌≡◌}
+-- `search::within`: some point is usable and near. Assumes nothing.
+use Rattle.std.proofs.Common.{rules, ap, Bool, ◌∙◌, ◌&&◌}
+use Rattle.std.proofs.lemmas.Iterator.Consumers.{YieldsList-from_first}
+use Rattle.std.proofs.lemmas.Iterator.Search.{any_from_yields_List}
+use borrow.Author.Tests.{tests}
 use Rattle.std.specs.Float.Ieee.{le}
-use Rattle.points.specs.Points.{given, usable_to}
+use Rattle.points.specs.declared.point.Point.{Point}
+use Rattle.points.specs.Points.{points_of, points_left, usable_of}
+use Rattle.points.specs.Laws.AllPoints.{usables_are}
 use Rattle.search.specs.Search.{square_of, any_of, within_of}
-use Rattle.search.proofs.SomeUsable.{within_none, within_more, within_some}
+use Rattle.search.proofs.SomeUsable.{any_among}
 use Rattle.search.proofs.brute.within.Goals as goal
-
-pub loop-i-init : goal.loop-i-init
-loop-i-init c = (within_none _ _, omega arith)
-
-pub read-requires : goal.read-requires
-read-requires c = rw (← c.given-all.ensures) (omega arith)
-
-pub returns-then-reaches : goal.returns-then-reaches
-unfolding within_of
-returns-then-reaches c = sym (within_some _ _ c.loop-i.i c.read.ensures c.reaches.ensures c.if-reaches.true (rw c.given-all.ensures at c.loop-i-test.true))
-
-pub loop-i-preserved : goal.loop-i-preserved
-loop-i-preserved c = (within_more _ _ c.loop-i.i c.read.ensures c.reaches.ensures c.if-reaches.false c.loop-i.invariant.0, omega arith)
 
 pub returns : goal.returns
 unfolding within_of
 returns c =
-    let s = c.args in
-    let n : c.loop-i.i ≡ given s.points.now = omega (arith, c.given-all.ensures) in
-    sym c.loop-i.invariant.0 ∙ ap (λ (k : ℕ). any_of (λ p. le (square_of s.query p) s.limit) (usable_to s.points.now k)) n
+    let xs = c.args.points.now in
+    let near : Point → Bool = λ p. le (square_of c.args.query p) c.args.limit in
+    let road = YieldsList-from_first (λ x. x) points_left (points_of xs) c.all.ensures.left in
+    let all = any_from_yields_List (λ p. usable_of p && near p) c.any.new.self _ c.any.result c.any.ensures.ran road (λ x b q k. search (rules, tests)) in
+    all ∙ any_among (points_of xs) near ∙ ap (any_of near) (usables_are xs)

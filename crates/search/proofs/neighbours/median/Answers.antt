@@ -8,7 +8,7 @@ returns-then-m-gt0 c =
     let g = c.gaps-m in
     median_some _ g.new.list g.result g.ensures.0 g.ensures.2 c.if-m-gt0.true (omega (arith, g.auto.list, g.ensures.1, c.requires))
 
-pub returns : goal.returns
-returns c =
+pub returns-else-m-gt0 : goal.returns-else-m-gt0
+returns-else-m-gt0 c =
     let g = c.gaps-m in
     median_none _ g.new.list g.result g.ensures.0 g.ensures.2 c.if-m-gt0.false

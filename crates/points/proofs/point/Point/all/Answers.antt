@@ -7,4 +7,4 @@ pub returns-clause-runs : goal.returns-clause-runs
 returns-clause-runs c = points_run
 
 pub returns-clause-fits : goal.returns-clause-fits
-returns-clause-fits c = omega (arith, length_points c.args.points.now, c.args.points.ref_ptr.1)
+returns-clause-fits c = omega (arith, length_points c.args.points.now)
