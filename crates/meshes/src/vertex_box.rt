@@ -55,10 +55,8 @@ pub fn bounds(vertices: &[f32]) -> VertexBox
         low: first,
         high: first,
     };
-    let mut v = 1usize;
-    while v < count {
+    for v in 1..count {
         b = b.reach(triple_at(vertices, 3 * v));
-        v += 1;
     }
     b
 }

@@ -14,15 +14,8 @@ pub fn level(g: Grid, values: &[f32], points: &[f32], offset: f32) -> f32
     requires points_bound { given points.now ≤ 1048576 }
     ensures { result ≡ level_of g values.now (usables points.now) offset }
 {
-    let all = Point::given(points);
-    let mut sum = -0.0;
-    let mut i = 0usize;
-    while i < all {
-        let p = Point::read(points, i);
-        if p.usable() {
-            sum = sum + g.sample(values, p.place());
-        }
-        i += 1;
-    }
+    let sum = Point::all(points)
+        .filter(|p| p.usable())
+        .fold(-0.0, |sum, p| sum + g.sample(values, p.place()));
     arith::narrow(sum / points::usable_count(points) as f64 + arith::widen(offset))
 }

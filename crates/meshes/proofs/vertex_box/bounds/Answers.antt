@@ -22,21 +22,22 @@ returns-then-count-eq0 c = rw c.if-count-eq0.true
 
 pub loop-v-init : goal.loop-v-init
 unfolding box_to
-loop-v-init c = (omega arith, omega arith, rw c.triple_at-first.ensures)
+loop-v-init c = rw c.triple_at-first.ensures
 
 pub loop-v-preserved : goal.loop-v-preserved
 loop-v-preserved c =
-    let here : at c.args.vertices.now (3 * c.loop-v.v) ∷ at c.args.vertices.now (3 * c.loop-v.v + 1) ∷ at c.args.vertices.now (3 * c.loop-v.v + 2) ∷ [] ≡ vertex_at c.args.vertices.now c.loop-v.v = rw add-zero refl in (
-      omega arith,
-      omega arith,
-      c.reach-b.ensures
-          ∙ ap (λ (p : List Float). reached_by c.loop-v.b p) (c.triple_at.ensures ∙ here)
-          ∙ ap (λ (b : VertexBox). reached_by b (vertex_at c.args.vertices.now c.loop-v.v)) c.loop-v.invariant.2
-          ∙ sym (box_more c.args.vertices.now c.loop-v.v c.loop-v.invariant.0),
-    )
+    let vs = c.args.vertices.now in
+    let v = c.loop-v.v in
+    let here : at vs (3 * v) ∷ at vs (3 * v + 1) ∷ at vs (3 * v + 2) ∷ [] ≡ vertex_at vs v = rw add-zero refl in
+    c.reach-b.ensures
+    ∙ ap (λ (p : List Float). reached_by c.loop-v.b p) (c.triple_at.ensures ∙ here)
+    ∙ ap (λ (b : VertexBox). reached_by b (vertex_at vs v)) c.loop-v.invariant
+    ∙ sym (box_more vs v c.loop-v.auto.v)
 
 pub returns : goal.returns
 unfolding box_of
 returns c =
-    let all : c.loop-v.v ≡ vertex_count c.args.vertices.now = omega arith in
-    c.loop-v.invariant.2 ∙ ap (λ (n : ℕ). box_to c.args.vertices.now (n - 1)) all ∙ sym (box_all c.args.vertices.now (vertex_count c.args.vertices.now) (omega arith))
+    let vs = c.args.vertices.now in
+    let some : 0 < vertex_count vs = omega arith in
+    let all : c.loop-v.v ≡ vertex_count vs = omega (arith, c.loop-v.auto.v-end some) in
+    c.loop-v.invariant ∙ ap (λ (n : ℕ). box_to vs (n - 1)) all ∙ sym (box_all vs (vertex_count vs) some)
