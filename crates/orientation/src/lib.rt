@@ -5,7 +5,6 @@
 mod triangle;
 
 ghost use Rattle.std.specs.Prelude.{◌≡◌, map, ◌*◌, ◌<◌, length};
-ghost use Rattle.lists.specs.EveryNth.{stride_for};
 ghost use Rattle.closed.specs.Faces as Flat;
 ghost use Rattle.grid.specs.Grid.{Sides, all_nodes};
 ghost use Rattle.meshes.specs.FlatMesh.{vertex_count, face_count, Meshed, Corners};
@@ -47,15 +46,7 @@ fn sign_at(g: Grid, values: &[f32], vertices: &[f32], face: [u32; 3]) -> f64
     arith::sign(x + y + z)
 }
 
-// Every how many-th face is asked: about five hundred of them.
-fn stride(count: usize) -> usize
-    ensures { result ≡ stride_for 500 count }
-{
-    let s = count / 500;
-    if s < 1 { 1 } else { s }
-}
-
-// The sum of the signs of the faces 0, s, 2s.., from -0.0.
+// The sum of the signs of the faces 0, s, 2s.., from -0.0: about five hundred of them are asked.
 fn agreement(g: Grid, values: &[f32], vertices: &[f32], faces: &[u32]) -> f64
     requires sides { Sides g.nodes }
     requires values_len { length values.now ≡ all_nodes g }
@@ -63,13 +54,11 @@ fn agreement(g: Grid, values: &[f32], vertices: &[f32], faces: &[u32]) -> f64
     ensures { result ≡ agreement_of g values.now vertices.now (Flat.faces faces.now) }
 {
     let count = faces.len() / 3;
-    let s = stride(count);
+    let s = lists::stride_for(500, count);
     let mut sum = -0.0;
-    let mut t = 0usize;
-    while t < count {
+    for t in (0..count).step_by(s) {
         let face = read_face(faces, t);
         sum = sum + sign_at(g, values, vertices, face);
-        t += s;
     }
     sum
 }
@@ -79,12 +68,9 @@ fn turn_all(faces: &mut [u32])
     requires { length faces.old ≡ 3 * face_count faces.old }
     ensures { faces.new ≡ Flat.corners (map Flat.turn (Flat.faces faces.old)) }
 {
-    let count = faces.len() / 3;
-    let mut t = 0usize;
-    while t < count {
+    for t in 0..faces.len() / 3 {
         let face = read_face(faces, t);
         write_face(faces, t, closed::turned(face));
-        t += 1;
     }
 }
 
