@@ -24,14 +24,12 @@ pub fn row_faces(table: &[i8; 4096], case: usize) -> usize
     requires { (table.now ≡ flat_table) × (case < 256) }
     ensures { result ≡ length (emitted case) }
 {
-    let mut k = 0usize;
-    while k < 5 {
+    for k in 0..5 {
         if row_entry(table, case, 3 * k) < 0 {
             return k;
         }
-        k += 1;
     }
-    k
+    5
 }
 
 // Face k of them, over the cube's edges: a triple (a, b, c) is emitted (a, c, b).

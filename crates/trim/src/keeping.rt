@@ -24,16 +24,13 @@ pub fn keep_faces(points: &[f32], limit: f32, vertices: &[f32], faces: &mut [u32
     ensures faces_after { take result (Flat.faces faces.new) ≡ keep (near (usables points.now) vertices.now limit)
         (Flat.faces faces.old) }
 {
-    let count = faces.len() / 3;
     let mut kept = 0usize;
-    let mut t = 0usize;
-    while t < count {
+    for t in 0..faces.len() / 3 {
         let face = read_face(faces, t);
         if is_near(points, limit, vertices, face) {
             write_face(faces, kept, face);
             kept += 1;
         }
-        t += 1;
     }
     kept
 }

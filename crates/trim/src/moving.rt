@@ -18,13 +18,11 @@ fn put(a: &mut [f32], b: &mut [f32], c: &mut [f32], vertex: Vertex, x: f32)
     let n = a.len();
     if w < n {
         a[w] = x;
-        return;
-    }
-    if w - n < n {
+    } else if w - n < n {
         b[w - n] = x;
-        return;
+    } else {
+        c[w - n - n] = x;
     }
-    c[w - n - n] = x;
 }
 
 // Reads the coordinate there.
@@ -36,12 +34,12 @@ fn get(a: &[f32], b: &[f32], c: &[f32], vertex: Vertex) -> f32
     let w = vertex.0 as usize;
     let n = a.len();
     if w < n {
-        return a[w];
+        a[w]
+    } else if w - n < n {
+        b[w - n]
+    } else {
+        c[w - n - n]
     }
-    if w - n < n {
-        return b[w - n];
-    }
-    c[w - n - n]
 }
 
 // A coordinate of an old vertex goes to the place of its new number, if its entry in the table names one.
@@ -50,10 +48,9 @@ fn carry(a: &mut [f32], b: &mut [f32], c: &mut [f32], entry: u32, x: f32)
     requires bound { entry ≤ 3 * length a.old }
     ensures { lines a.new b.new c.new ≡ carried (lines a.old b.old c.old) entry x }
 {
-    if entry == 0 {
-        return;
+    if entry > 0 {
+        put(a, b, c, Vertex::of(entry - 1), x);
     }
-    put(a, b, c, Vertex::of(entry - 1), x);
 }
 
 // The same with all old vertices.
@@ -62,11 +59,8 @@ fn gather(table: &[u32], vertices: &[f32], a: &mut [f32], b: &mut [f32], c: &mut
     ensures { lines a.new b.new c.new ≡ gathered table.now vertices.now axis
         (lines a.old b.old c.old) (vertex_count vertices.now) }
 {
-    let count = vertices.len() / 3;
-    let mut v = 0usize;
-    while v < count {
+    for v in 0..vertices.len() / 3 {
         carry(a, b, c, table[v], vertices[3 * v + axis]);
-        v += 1;
     }
 }
 
@@ -76,10 +70,8 @@ fn scatter(vertices: &mut [f32], a: &[f32], b: &[f32], c: &[f32], axis: usize, u
     requires axis_bound { (axis < 3) × (used ≤ vertex_count vertices.old) × (used ≤ 3 * length a.now) }
     ensures { vertices.new ≡ scattered (lines a.now b.now c.now) axis vertices.old used }
 {
-    let mut w = 0u32;
-    while w < used {
+    for w in 0..used {
         vertices[3 * w as usize + axis] = get(a, b, c, Vertex::of(w));
-        w += 1;
     }
 }
 

@@ -69,12 +69,10 @@ pub fn number(faces: &mut [u32], count: usize, table: &mut [u32]) -> u32
     ensures { Renumbered (take count (Flat.faces faces.old)) (take count (Flat.faces faces.new)) table.new result }
 {
     let mut seen = 0u32;
-    let mut t = 0usize;
-    while t < count {
+    for t in 0..count {
         let face = read_face(faces, t);
         seen = note_face(table, seen, face);
         write_face(faces, t, renamed(table, face));
-        t += 1;
     }
     seen
 }

@@ -15,7 +15,7 @@ returns-then-row_entry-lt0 c =
 pub loop-k-preserved : goal.loop-k-preserved
 loop-k-preserved c =
     let e = leb-false (length (row c.args.case)) (3 * c.loop-k.k) (sym (tested c.args.case (3 * c.loop-k.k) c.row_entry.result c.requires.1 c.row_entry.ensures) ∙ c.if-row_entry-lt0.false) in
-    (omega (arith, e, emitted_length c.args.case c.requires.1), omega arith)
+    omega (arith, e, emitted_length c.args.case c.requires.1)
 
 pub returns : goal.returns
 returns c = omega (arith, emitted_le c.args.case c.requires.1)

@@ -1,11 +1,8 @@
 -- `cubes::rows::row_faces` meets its contract.
 -- Assumes nothing.
-use Rattle.std.proofs.Common.{◌-◌, ◌≤◌, length}
+use Rattle.std.proofs.Common.{◌≤◌, length}
 use Rattle.closed.specs.Rows.{emitted}
 use Rattle.cubes.proofs.rows.row_faces.Given as goal
 
 abbrev pub invariant-loop-k : goal.invariant-loop-k
-invariant-loop-k l = (l.k ≤ length (emitted l.case)) × (l.k ≤ 5)
-
-abbrev pub decreases-loop-k : goal.decreases-loop-k
-decreases-loop-k l = 5 - l.k
+invariant-loop-k l = l.k ≤ length (emitted l.case)

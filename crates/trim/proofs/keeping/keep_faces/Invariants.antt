@@ -1,5 +1,4 @@
 -- `trim::keeping::keep_faces`: before face t the front holds the near ones of the first t faces (`Kept`). Assumes nothing.
-use Rattle.std.proofs.Common.{◌-◌}
 use Rattle.points.specs.Points.{usables}
 use Rattle.trim.specs.Trim.{near}
 use Rattle.trim.proofs.KeptFront.{Kept}
@@ -7,6 +6,3 @@ use Rattle.trim.proofs.keeping.keep_faces.Given as goal
 
 abbrev pub invariant-loop-t : goal.invariant-loop-t
 invariant-loop-t l = Kept (near (usables l.points) l.vertices l.limit) l.initial.faces l.faces l.kept l.t
-
-abbrev pub decreases-loop-t : goal.decreases-loop-t
-decreases-loop-t l = l.count - l.t

@@ -1,6 +1,6 @@
 -- `trim::moving::gather`: before vertex v the coordinates of the vertices before it are carried, and the turn carries one more (`one_more`). Assumes
 -- nothing.
-use Rattle.std.proofs.Common.{List, ℕ, ◌≡◌, refl, sym, ap, ◌∙◌, ◌+◌, add-one, arith, get_or, Float}
+use Rattle.std.proofs.Common.{List, ℕ, ◌≡◌, refl, sym, ap, ◌∙◌, ◌+◌, add-one, get_or, Float}
 use Rattle.meshes.specs.FlatMesh.{coordinate}
 use Rattle.trim.specs.Words.{carried, gathered}
 use Rattle.trim.proofs.moving.gather.Goals as goal
@@ -12,7 +12,7 @@ one_more table vertices line axis v = rw add-one refl
 
 pub loop-v-init : goal.loop-v-init
 unfolding gathered
-loop-v-init c = (refl, refl, refl, refl, omega arith)
+loop-v-init c = (refl, refl, refl, refl)
 
 pub loop-v-preserved : goal.loop-v-preserved
 loop-v-preserved c = (
@@ -22,5 +22,4 @@ loop-v-preserved c = (
   c.carry.auto.a ∙ c.loop-v.invariant.1,
   c.carry.auto.b ∙ c.loop-v.invariant.2,
   c.carry.auto.c ∙ c.loop-v.invariant.3,
-  omega arith,
 )

@@ -8,5 +8,5 @@ returns-then-w-n c = put_first _ _ _ c.requires.even _ _ c.if-w-n.true
 pub returns-then-w-n-2 : goal.returns-then-w-n-2
 returns-then-w-n-2 c = put_second _ _ _ c.requires.even _ _ c.if-w-n.false c.if-w-n-2.true
 
-pub returns : goal.returns
-returns c = put_third _ _ _ c.requires.even _ _ c.if-w-n.false c.if-w-n-2.false
+pub returns-else-w-n-2 : goal.returns-else-w-n-2
+returns-else-w-n-2 c = put_third _ _ _ c.requires.even _ _ c.if-w-n.false c.if-w-n-2.false

@@ -1,10 +1,7 @@
 -- `trim::moving::scatter`: before vertex w the vertices before it have their coordinates. Assumes nothing.
-use Rattle.std.proofs.Common.{◌≡◌, ◌-◌, ◌≤◌}
+use Rattle.std.proofs.Common.{◌≡◌}
 use Rattle.trim.specs.Words.{lines, scattered}
 use Rattle.trim.proofs.moving.scatter.Given as goal
 
 abbrev pub invariant-loop-w : goal.invariant-loop-w
-invariant-loop-w l = (l.vertices ≡ scattered (lines l.a l.b l.c) l.axis l.initial.vertices l.w) × (l.w ≤ l.used)
-
-abbrev pub decreases-loop-w : goal.decreases-loop-w
-decreases-loop-w l = l.used - l.w
+invariant-loop-w l = l.vertices ≡ scattered (lines l.a l.b l.c) l.axis l.initial.vertices l.w
