@@ -5,8 +5,11 @@ use Rattle.lists.specs.Laws.OneAnswer.{same, ◌&◌}
 use Rattle.answers.specs.contracts as contract
 use Rattle.answers.proofs as fn
 
-pub verdict_number : OneOutcome contract.Verdict.number.ended fn.Verdict.number.Reads.Post
-verdict_number κs args o o' p q = same p q & refl
+pub refusal_number : OneOutcome contract.Refusal.number.ended fn.Refusal.number.Reads.Post
+refusal_number κs args o o' p q = same p q & refl
 
 pub answer_refused : OneOutcome contract.Answer.refused.ended fn.Answer.refused.Reads.Post
 answer_refused κs args o o' p q = same p q & refl
+
+pub answer_told : OneOutcome contract.Answer.told.ended fn.Answer.told.Reads.Post
+answer_told κs args o o' p q = same p q & refl

@@ -1,43 +1,61 @@
--- Document 01, "Numbers of refusal": the number of each verdict, and the answer's values under each. Definitions only; assumes nothing.
-use Rattle.std.specs.Prelude.{Bool, cond, ℕ, eqb}
+-- Document 01, "Numbers of refusal": the number of each refusal, and the answer's values under each verdict. Definitions only; assumes nothing.
+use Rattle.std.specs.Prelude.{Bool, cond, ℕ, Result, Ok, Err, is_ok, ⊤}
 use Rattle.lists.specs.Lists.{zeros32, zero32}
 use Rattle.answers.specs.declared.Answer.{Answer}
-use Rattle.answers.specs.declared.Verdict.{Verdict}
-use Rattle.answers.specs.declared.Verdict.TheVariants.{Pass, PointSlice, NoPoints, Depth, Smoothing, ScratchRoom, TooFew, Flat, VertexRoom, FaceRoom, NoFace}
+use Rattle.answers.specs.declared.Refusal.{Refusal}
+use Rattle.answers.specs.declared.Refusal.TheVariants.{PointSlice, NoPoints, Depth, Smoothing, ScratchRoom, TooFew, Flat, VertexRoom, FaceRoom, NoFace}
 
--- 1 to 6 are the repository's, 7 to 10 are added, 0 is acceptance
+-- what a check answers: acceptance, or why a call is refused
+abbrev pub Verdict : Type 0
+Verdict = Result ⊤ Refusal
+
+abbrev pub Pass : Verdict
+Pass = Ok tt
+
+-- 1 to 6 are the repository's, 7 to 10 are added
+abbrev pub refusal_number : Refusal → ℕ
+refusal_number NoPoints = 1
+refusal_number Depth = 2
+refusal_number Smoothing = 3
+refusal_number TooFew = 4
+refusal_number Flat = 5
+refusal_number NoFace = 6
+refusal_number PointSlice = 7
+refusal_number ScratchRoom = 8
+refusal_number VertexRoom = 9
+refusal_number FaceRoom = 10
+
+-- 0 is acceptance
 abbrev pub number_of : Verdict → ℕ
-number_of Pass = 0
-number_of NoPoints = 1
-number_of Depth = 2
-number_of Smoothing = 3
-number_of TooFew = 4
-number_of Flat = 5
-number_of NoFace = 6
-number_of PointSlice = 7
-number_of ScratchRoom = 8
-number_of VertexRoom = 9
-number_of FaceRoom = 10
+number_of (Ok t) = 0
+number_of (Err r) = refusal_number r
 
 abbrev pub accepts : Verdict → Bool
-accepts v = eqb (number_of v) 0
+accepts v = is_ok v
 
 -- a refusal has every other answer field zero
-abbrev pub refused : Verdict → Answer
-refused v = record { number = number_of v; usable = 0; vertices = 0; faces = 0; level = zero32; low = zeros32 3; high = zeros32 3 }
+abbrev pub refused : Refusal → Answer
+refused r = record { number = refusal_number r; usable = 0; vertices = 0; faces = 0; level = zero32; low = zeros32 3; high = zeros32 3 }
 
 -- what is answered under a verdict: under acceptance, what there is to answer
 abbrev pub answer_under : Verdict → Answer → Answer
-answer_under v made = cond (accepts v) made (refused v)
+answer_under (Ok t) made = made
+answer_under (Err r) made = refused r
+
+-- what is answered in the end
+abbrev pub told : Result Answer Refusal → Answer
+told (Ok a) = a
+told (Err r) = refused r
 
 -- ---- checks in a row
 
--- the verdict v where the test holds
+-- the refusal r where the test holds
 infix 30 ◌when◌
-abbrev pub ◌when◌ : Verdict → Bool → Verdict
-v when test = cond test v Pass
+abbrev pub ◌when◌ : Refusal → Bool → Verdict
+r when test = cond test (Err r) Pass
 
 -- the first that refuses
 infixr 20 ◌then◌
 abbrev pub ◌then◌ : Verdict → Verdict → Verdict
-v then w = cond (accepts v) w v
+(Ok t) then w = w
+(Err r) then w = Err r

@@ -1,14 +1,13 @@
-// Document 01, "Numbers of refusal" and "What crosses the counter": the verdicts with their numbers, and the answer. Beside the errors of the Rust's
-// poisson.rs, whose strings are numbers here.
+// Document 01, "Numbers of refusal" and "What crosses the counter": why a call is refused, with the numbers, and the answer. Beside the errors of the Rust's
+// poisson.rs, whose strings are numbers here. A check answers `Ok(())` or its refusal.
 #![tactic(auto)]
 
 ghost use Rattle.std.specs.Prelude.{◌≡◌};
-ghost use Rattle.answers.specs.Answers.{number_of, refused};
+ghost use Rattle.answers.specs.Answers.{refusal_number, refused, told};
 
-// Acceptance, or why a call is refused, in the order of checking.
+// Why a call is refused, in the order of checking.
 #[derive(Clone, Copy)]
-pub enum Verdict {
-    Pass,
+pub enum Refusal {
     PointSlice,
     NoPoints,
     Depth,
@@ -33,40 +32,49 @@ pub struct Answer {
     pub high: [f32; 3],
 }
 
-impl Verdict {
+impl Refusal {
     // 01's number.
     pub fn number(self) -> u32
-        ensures { result ≡ number_of self }
+        ensures { result ≡ refusal_number self }
     {
         match self {
-            Verdict::Pass => 0,
-            Verdict::NoPoints => 1,
-            Verdict::Depth => 2,
-            Verdict::Smoothing => 3,
-            Verdict::TooFew => 4,
-            Verdict::Flat => 5,
-            Verdict::NoFace => 6,
-            Verdict::PointSlice => 7,
-            Verdict::ScratchRoom => 8,
-            Verdict::VertexRoom => 9,
-            Verdict::FaceRoom => 10,
+            Refusal::NoPoints => 1,
+            Refusal::Depth => 2,
+            Refusal::Smoothing => 3,
+            Refusal::TooFew => 4,
+            Refusal::Flat => 5,
+            Refusal::NoFace => 6,
+            Refusal::PointSlice => 7,
+            Refusal::ScratchRoom => 8,
+            Refusal::VertexRoom => 9,
+            Refusal::FaceRoom => 10,
         }
     }
 }
 
 impl Answer {
     // "A refusal has every other answer field zero."
-    pub fn refused(verdict: Verdict) -> Answer
-        ensures { result ≡ refused verdict }
+    pub fn refused(refusal: Refusal) -> Answer
+        ensures { result ≡ refused refusal }
     {
         Answer {
-            number: verdict.number(),
+            number: refusal.number(),
             usable: 0,
             vertices: 0,
             faces: 0,
             level: 0.0,
             low: [0.0, 0.0, 0.0],
             high: [0.0, 0.0, 0.0],
+        }
+    }
+
+    // What is answered in the end: the answer of a call that went through, or that of a refusal, whose number stands beside its zeros.
+    pub fn told(outcome: Result<Answer, Refusal>) -> Answer
+        ensures { result ≡ told outcome }
+    {
+        match outcome {
+            Ok(answer) => answer,
+            Err(refusal) => Answer::refused(refusal),
         }
     }
 }

@@ -7,9 +7,8 @@ use Rattle.lists.specs.Lists.{zero32}
 use Rattle.points.specs.Points.{numbers_per_point, given}
 use Rattle.settings.specs.declared.Settings.{Settings}
 use Rattle.settings.specs.declared.Lengths.{Lengths}
-use Rattle.answers.specs.declared.Verdict.{Verdict}
-use Rattle.answers.specs.declared.Verdict.TheVariants.{PointSlice, NoPoints, Depth, Smoothing, ScratchRoom, TooFew, Flat, VertexRoom, FaceRoom, NoFace}
-use Rattle.answers.specs.Answers.{◌when◌, ◌then◌}
+use Rattle.answers.specs.declared.Refusal.TheVariants.{PointSlice, NoPoints, Depth, Smoothing, ScratchRoom, TooFew, Flat, VertexRoom, FaceRoom, NoFace}
+use Rattle.answers.specs.Answers.{Verdict, ◌when◌, ◌then◌}
 
 -- ---- before any point is looked at
 

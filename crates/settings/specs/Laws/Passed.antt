@@ -8,8 +8,8 @@ use Rattle.lists.specs.Lists.{zero32}
 use Rattle.points.specs.Points.{numbers_per_point, given}
 use Rattle.settings.specs.declared.Settings.{Settings}
 use Rattle.settings.specs.declared.Lengths.{Lengths}
-use Rattle.answers.specs.declared.Verdict.TheVariants.{Pass, PointSlice, NoPoints, Depth, Smoothing, ScratchRoom, TooFew, VertexRoom, FaceRoom, NoFace}
-use Rattle.answers.specs.Answers.{◌then◌}
+use Rattle.answers.specs.declared.Refusal.TheVariants.{PointSlice, NoPoints, Depth, Smoothing, ScratchRoom, TooFew, VertexRoom, FaceRoom, NoFace}
+use Rattle.answers.specs.Answers.{Pass, ◌then◌}
 use Rattle.answers.specs.Laws.InARow.{both_pass, unless}
 use Rattle.settings.specs.Refusals.{point_slice_verdict, no_points_verdict, depth_verdict, smoothing_verdict, any_short, scratch_verdict, early_verdict, usable_verdict, vertex_room_verdict, face_room_verdict, room_verdict, mesh_verdict}
 
@@ -47,22 +47,22 @@ pub record ChecksPassed (xs : List Float) (st : Settings) (lent : Lengths) : Typ
 pub depth_fits : (depth : ℕ) → depth_verdict depth ≡ Pass → (3 ≤ depth) × (depth ≤ 8)
 unfolding depth_verdict
 depth_fits depth e =
-    let t = neither (ltb depth 3) (ltb 8 depth) (unless Depth (ltb depth 3 || ltb 8 depth) refl e) in
+    let t = neither (ltb depth 3) (ltb 8 depth) (unless Depth (ltb depth 3 || ltb 8 depth) e) in
     (ltb-false depth 3 t.0, ltb-false 8 depth t.1)
 
 slice_fits : (xs : List Float) → point_slice_verdict xs ≡ Pass → (length xs % numbers_per_point ≡ 0) × (given xs ≤ 1048576)
 unfolding point_slice_verdict
 slice_fits xs e =
-    let t = neither (not (eqb (length xs % numbers_per_point) 0)) (ltb 1048576 (given xs)) (unless PointSlice (not (eqb (length xs % numbers_per_point) 0) || ltb 1048576 (given xs)) refl e) in
+    let t = neither (not (eqb (length xs % numbers_per_point) 0)) (ltb 1048576 (given xs)) (unless PointSlice (not (eqb (length xs % numbers_per_point) 0) || ltb 1048576 (given xs)) e) in
     (eqb-true (length xs % numbers_per_point) 0 (indeed (eqb (length xs % numbers_per_point) 0) t.0), ltb-false 1048576 (given xs) t.1)
 
 some_points : (xs : List Float) → no_points_verdict xs ≡ Pass → 0 < given xs
 unfolding no_points_verdict
-some_points xs e = let t = eqb-false (given xs) 0 (unless NoPoints (eqb (given xs) 0) refl e) in omega arith
+some_points xs e = let t = eqb-false (given xs) 0 (unless NoPoints (eqb (given xs) 0) e) in omega arith
 
 smooth_enough : (s : Float) → smoothing_verdict s ≡ Pass → lt zero32 s ≡ true
 unfolding smoothing_verdict
-smooth_enough s e = indeed (lt zero32 s) (unless Smoothing (not (lt zero32 s)) refl e)
+smooth_enough s e = indeed (lt zero32 s) (unless Smoothing (not (lt zero32 s)) e)
 
 scratch_fits : (depth points : ℕ) (lent : Lengths) → scratch_verdict depth points lent ≡ Pass
     → Fit (8 ^ depth) lent.grids × (3 * 8 ^ depth ≤ lent.edges) × (points ≤ lent.distances)
@@ -70,7 +70,7 @@ unfolding scratch_verdict
 scratch_fits depth points lent e =
     let n = 8 ^ depth in
     let t = neither (any_short n lent.grids) (ltb lent.edges (3 * n) || ltb lent.distances points)
-    (unless ScratchRoom (any_short n lent.grids || (ltb lent.edges (3 * n) || ltb lent.distances points)) refl e) in
+    (unless ScratchRoom (any_short n lent.grids || (ltb lent.edges (3 * n) || ltb lent.distances points)) e) in
     let u = neither (ltb lent.edges (3 * n)) (ltb lent.distances points) t.1 in
     (all_fit n lent.grids t.0, ltb-false lent.edges (3 * n) u.0, ltb-false lent.distances points u.1)
 
@@ -97,16 +97,16 @@ ready xs st lent e =
 
 pub enough_usable : (usable : ℕ) → usable_verdict usable ≡ Pass → 10 ≤ usable
 unfolding usable_verdict
-enough_usable usable e = ltb-false usable 10 (unless TooFew (ltb usable 10) refl e)
+enough_usable usable e = ltb-false usable 10 (unless TooFew (ltb usable 10) e)
 
 pub room_fits : (vertices faces : ℕ) (lent : Lengths) → room_verdict vertices faces lent ≡ Pass → (3 * vertices ≤ lent.vertices) × (3 * faces ≤ lent.faces)
 unfolding vertex_room_verdict face_room_verdict
 room_fits vertices faces lent e =
     let t = both_pass (vertex_room_verdict vertices lent) (face_room_verdict faces lent) e in (
-      ltb-false lent.vertices (3 * vertices) (unless VertexRoom (ltb lent.vertices (3 * vertices)) refl t.0),
-      ltb-false lent.faces (3 * faces) (unless FaceRoom (ltb lent.faces (3 * faces)) refl t.1),
+      ltb-false lent.vertices (3 * vertices) (unless VertexRoom (ltb lent.vertices (3 * vertices)) t.0),
+      ltb-false lent.faces (3 * faces) (unless FaceRoom (ltb lent.faces (3 * faces)) t.1),
     )
 
 pub some_face : (faces : ℕ) → mesh_verdict faces ≡ Pass → 0 < faces
 unfolding mesh_verdict
-some_face faces e = let t = eqb-false faces 0 (unless NoFace (eqb faces 0) refl e) in omega arith
+some_face faces e = let t = eqb-false faces 0 (unless NoFace (eqb faces 0) e) in omega arith

@@ -1,5 +1,5 @@
--- Whether a length is short from place i on, is whether one is from the start: that is the invariant, and at each turn one length is looked at.
-use Rattle.std.proofs.Common.{Bool, List, ap, arith, false, length, lt-ltb, sym, ℕ, ◌+◌, ◌<◌, ◌||◌, ◌∙◌, ◌≡◌, ◌≤◌, refl, le-ltb}
+-- Whether a length is short from some place on, is whether one is from the start: that is the invariant, and at each turn one length is looked at.
+use Rattle.std.proofs.Common.{Bool, List, ap, arith, false, length, lt-ltb, sym, ℕ, ◌+◌, ◌<◌, ◌||◌, ◌∙◌, ◌≡◌, ◌≤◌, le-ltb}
 use Rattle.std.proofs.Math.Numerals.{add-one}
 use Rattle.std.proofs.Math.Dec.{ltb}
 use Rattle.std.proofs.Math.ListN.{get_or, drop, drop_of_length-le}
@@ -16,24 +16,19 @@ none_left : (n i : ℕ) (ls : List ℕ) → length ls ≤ i → any_short n (dro
 unfolding any_short
 none_left n i ls h = ap (any_short n) (drop_of_length-le ls h)
 
-pub returns-then-grids-i : goal.returns-then-grids-i
-returns-then-grids-i c =
-    let i = c.loop-i.i in
+pub returns-then-length-n : goal.returns-then-length-n
+returns-then-length-n c =
     let n = c.args.n in
     let ls = c.args.grids in
-    sym (sym c.loop-i.invariant.0 ∙ one_more n i ls (omega arith) ∙ ap (λ (b : Bool). b || any_short n (drop (i + 1) ls)) (lt-ltb _ _ c.if-grids-i.true))
+    let i = c.loop-length.length-index in
+    sym (sym c.loop-length.invariant ∙ one_more n i ls (omega (arith, c.loop-length-test.true)) ∙ ap (λ (b : Bool). b || any_short n (drop (i + 1) ls)) (lt-ltb _ _ c.if-length-n.true))
 
-pub loop-i-init : goal.loop-i-init
-loop-i-init c = (refl, omega arith)
-
-pub loop-i-preserved : goal.loop-i-preserved
-loop-i-preserved c =
-    let i = c.loop-i.i in
+pub loop-length-preserved : goal.loop-length-preserved
+loop-length-preserved c =
     let n = c.args.n in
-    let ls = c.args.grids in (
-      sym (one_more n i ls (omega arith) ∙ ap (λ (b : Bool). b || any_short n (drop (i + 1) ls)) (le-ltb _ _ c.if-grids-i.false)) ∙ c.loop-i.invariant.0,
-      omega arith,
-    )
+    let ls = c.args.grids in
+    let i = c.loop-length.length-index in
+    sym (one_more n i ls (omega (arith, c.loop-length-test.true)) ∙ ap (λ (b : Bool). b || any_short n (drop (i + 1) ls)) (le-ltb _ _ c.if-length-n.false)) ∙ c.loop-length.invariant
 
 pub returns : goal.returns
-returns c = sym (sym c.loop-i.invariant.0 ∙ none_left c.args.n c.loop-i.i c.args.grids (omega arith))
+returns c = sym (sym c.loop-length.invariant ∙ none_left c.args.n c.loop-length.length-index c.args.grids (omega (arith, c.loop-length-test.false)))
