@@ -59,3 +59,9 @@ infixr 20 ◌then◌
 abbrev pub ◌then◌ : Verdict → Verdict → Verdict
 (Ok t) then w = w
 (Err r) then w = Err r
+
+-- what a check lets through: the answer, where it does not refuse
+infix 15 ◌lets◌
+abbrev pub ◌lets◌ : Verdict → Answer → Result Answer Refusal
+(Ok t) lets a = Ok a
+(Err r) lets a = Err r

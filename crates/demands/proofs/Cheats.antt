@@ -1,6 +1,7 @@
 -- Document 01, "How answers are marked", names cheats: refusing all, one stock mesh, a call that does nothing, invented V or F. Each is shut out by the
 -- contract of the whole call: here is what it says against each, of a call that was lent `before`, answered r and left `after`. By demands 2 and 3. Assumes
 -- nothing.
+use Rattle.std.specs.Prelude.{None}
 use mathlib.Core.Path.{◌≡◌, sym, ap, ◌∙◌}
 use mathlib.Core.Bool.{Bool}
 use mathlib.Core.List.{List, [], ◌∷◌, ◌++◌}
@@ -18,7 +19,6 @@ use Rattle.points.specs.Points.{usables}
 use Rattle.settings.specs.declared.Settings.{Settings}
 use Rattle.answers.specs.declared.Answer.{Answer}
 use Rattle.answers.specs.declared.Verdict.TheVariants.{Pass}
-use Rattle.settings.specs.declared.Trimming.TheVariants.{Off}
 use Rattle.answers.specs.Answers.{number_of}
 use Rattle.ending.specs.Slices.{Slices}
 use Rattle.scan.specs.Reconstruction.{Results, field_for, level_for, kept_vertices, kept_faces, lengths_of, verdict_of}
@@ -35,7 +35,7 @@ module _ (xs : List Float) (st : Settings) (before : Slices) (r : Answer) (after
 
   -- ---- invented V or F: without trimming V is the number of crossed edges, and F the sum of the row lengths
 
-  module _ (zero_number : r.number ≡ 0) (off : st.trimming ≡ Off) where
+  module _ (zero_number : r.number ≡ 0) (off : st.trimming ≡ None) where
     pub v_told : r.vertices
         ≡ crossed_count (side_nodes st) (side_nodes st) (side_nodes st) (below_at (field_for (usables xs) st) (side_nodes st) (side_nodes st) r.level)
     v_told = (closed_call xs st before r after met zero_number off).closed.vertex_count

@@ -1,2 +1,3 @@
--- That no second outcome fits.
+-- The seven slices as one outcome, and that no second outcome fits.
+pub mod SameSlices
 pub mod OneAnswer

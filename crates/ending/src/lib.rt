@@ -1,54 +1,54 @@
-// Document 01, "What crosses the counter": "unused result elements and all scratch are zero on return". The one ending of every call, refused or accepted: a
-// refusal has no mesh, so all of its result elements are unused. The Rust has none: its vectors are dropped.
+// Document 01, "What crosses the counter": "unused result elements and all scratch are zero on return". The seven scratch slices over nodes as one value, and
+// the one ending of every call, refused or accepted: a refusal has no mesh, so all of its result elements are unused. The Rust has none: its vectors are dropped.
 #![tactic(auto)]
 
+ghost use Rattle.std.specs.Prelude.{◌≡◌};
+ghost use Rattle.ending.specs.Slices.{scratch_of, slices_of, SameGrids, grid_lengths};
 ghost use Rattle.ending.specs.Ending.{Cleared, Tidied};
 
+// The seven scratch slices of a value a node. They are lent together and go back together.
+#[derive(Drop)]
+pub struct Grids<'a> {
+    pub s0: &'a mut [f32],
+    pub s1: &'a mut [f32],
+    pub s2: &'a mut [f32],
+    pub s3: &'a mut [f32],
+    pub s4: &'a mut [f32],
+    pub s5: &'a mut [f32],
+    pub s6: &'a mut [f32],
+}
+
+impl Grids<'_> {
+    // How long each is.
+    pub fn lengths(&self) -> [usize; 7]
+        ensures { result ≡ grid_lengths self.now }
+    {
+        [
+            self.s0.len(),
+            self.s1.len(),
+            self.s2.len(),
+            self.s3.len(),
+            self.s4.len(),
+            self.s5.len(),
+            self.s6.len(),
+        ]
+    }
+}
+
 // Clears all scratch, whole slices, also where they are longer than stated.
-pub fn clear_scratch(
-    s0: &mut [f32],
-    s1: &mut [f32],
-    s2: &mut [f32],
-    s3: &mut [f32],
-    s4: &mut [f32],
-    s5: &mut [f32],
-    s6: &mut [f32],
-    edges: &mut [u32],
-    distances: &mut [f32],
-)
-    ensures { Cleared
-        (record {
-          s0 = s0.old;
-          s1 = s1.old;
-          s2 = s2.old;
-          s3 = s3.old;
-          s4 = s4.old;
-          s5 = s5.old;
-          s6 = s6.old;
-          edges = edges.old;
-          distances = distances.old;
-        })
-        (record {
-          s0 = s0.new;
-          s1 = s1.new;
-          s2 = s2.new;
-          s3 = s3.new;
-          s4 = s4.new;
-          s5 = s5.new;
-          s6 = s6.new;
-          edges = edges.new;
-          distances = distances.new;
-        }) }
+pub fn clear_scratch(grids: &mut Grids, edges: &mut [u32], distances: &mut [f32])
+    ensures same { SameGrids grids.old grids.new }
+    ensures cleared { Cleared (scratch_of grids.old edges.old distances.old) (scratch_of grids.new edges.new distances.new) }
 {
-    lists::clear(s0);
-    lists::clear(s1);
-    lists::clear(s2);
-    lists::clear(s3);
-    lists::clear(s4);
-    lists::clear(s5);
-    lists::clear(s6);
-    lists::clear(edges);
-    lists::clear(distances);
+    lists::clear_f32(grids.s0);
+    lists::clear_f32(grids.s1);
+    lists::clear_f32(grids.s2);
+    lists::clear_f32(grids.s3);
+    lists::clear_f32(grids.s4);
+    lists::clear_f32(grids.s5);
+    lists::clear_f32(grids.s6);
+    lists::clear_u32(edges);
+    lists::clear_f32(distances);
 }
 
 // Clears the vertex slice from element `v` on, the face slice from `w` on, and all scratch.
@@ -57,49 +57,15 @@ pub fn tidy(
     w: usize,
     vertices: &mut [f32],
     faces: &mut [u32],
-    s0: &mut [f32],
-    s1: &mut [f32],
-    s2: &mut [f32],
-    s3: &mut [f32],
-    s4: &mut [f32],
-    s5: &mut [f32],
-    s6: &mut [f32],
+    grids: &mut Grids,
     edges: &mut [u32],
     distances: &mut [f32],
 )
-    ensures { Tidied v w
-        (record {
-          vertices = vertices.old;
-          faces = faces.old;
-          scratch = record {
-            s0 = s0.old;
-            s1 = s1.old;
-            s2 = s2.old;
-            s3 = s3.old;
-            s4 = s4.old;
-            s5 = s5.old;
-            s6 = s6.old;
-            edges = edges.old;
-            distances = distances.old;
-          };
-        })
-        (record {
-          vertices = vertices.new;
-          faces = faces.new;
-          scratch = record {
-            s0 = s0.new;
-            s1 = s1.new;
-            s2 = s2.new;
-            s3 = s3.new;
-            s4 = s4.new;
-            s5 = s5.new;
-            s6 = s6.new;
-            edges = edges.new;
-            distances = distances.new;
-          };
-        }) }
+    ensures same { SameGrids grids.old grids.new }
+    ensures tidied { Tidied v w (slices_of vertices.old faces.old grids.old edges.old distances.old)
+        (slices_of vertices.new faces.new grids.new edges.new distances.new) }
 {
-    lists::clear_from(vertices, v);
-    lists::clear_from(faces, w);
-    clear_scratch(s0, s1, s2, s3, s4, s5, s6, edges, distances);
+    lists::clear_from_f32(vertices, v);
+    lists::clear_from_u32(faces, w);
+    clear_scratch(grids, edges, distances);
 }

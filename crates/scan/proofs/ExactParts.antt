@@ -1,47 +1,33 @@
--- Once the checks pass, all scratch is at least as long as stated, so its parts of exactly the stated lengths are what the stages ask: `parts_lent`. Assumes
--- nothing.
-use mathlib.Core.Path.{◌≡◌, sym, ◌∙◌, subst}
-use mathlib.Core.List.{List}
-use Prim.Native.Nat.{ℕ, ◌*◌, ◌^◌, ◌≤◌}
-use native.Mathlib.Omega.{arith}
-use lib.ListN.{take}
+-- Once the checks pass, all scratch is at least as long as stated, which is what the stages ask (`lent_room`), so its fronts have just the stated lengths
+-- (`front_length`). Assumes nothing.
+use Rattle.std.specs.Prelude.{◌≡◌, ◌≤◌, List, ℕ, take, length, Float}
+use Rattle.std.proofs.Common.{◌∙◌, arith}
 use lib.Seq.{length-take-le}
-use lib.Ieee.{Float}
+use Rattle.ending.specs.declared.Grids.{Grids}
+use Rattle.ending.specs.Slices.{slices_of}
 use Rattle.settings.specs.declared.Settings.{Settings}
-use Rattle.settings.specs.declared.Lengths.{Lengths}
-use Rattle.settings.specs.Laws.Passed.{Fit, ChecksPassed}
-use Rattle.ending.specs.Slices.{Scratch, Slices}
+use Rattle.settings.specs.Laws.Passed.{ChecksPassed}
 use Rattle.scan.specs.Reconstruction.{lengths_of}
 use Rattle.scan.specs.Words.{Lent}
 
--- the parts of n values each, and all of the distances
-abbrev pub PartsLent : (xs : List Float) → Settings → Scratch → (n : ℕ) → Type 0
-PartsLent xs st s n =
-    Lent xs st (take n s.s0) (take n s.s1) (take n s.s2) (take n s.s3) (take n s.s4) (take n s.s5) (take n s.s6) s.distances
+-- a front of n elements has as many
+pub front_length : {A : Type 0} {n m : ℕ} (s : List A) → n ≡ m → m ≤ length s → length (take n s) ≡ m
+front_length {n = n} s e h = length-take-le n s (omega (arith, e, h)) ∙ e
 
-module _ (xs : List Float) (st : Settings) (lent : Lengths) (passed : ChecksPassed xs st lent) (n : ℕ) (nodes : n ≡ 8 ^ st.depth) where
-  -- each of the seven slices has room for n values, and the edge table for 3n numbers
-  pub rooms : Fit n lent.grids
-  rooms = subst (λ (k : ℕ). Fit k lent.grids) (sym nodes) passed.grids_fit
-
-  pub table_room : 3 * n ≤ lent.edges
-  table_room = omega (arith, nodes, passed.edges_fit)
-
-module _ (xs : List Float) (st : Settings) (lent : Slices) (passed : ChecksPassed xs st (lengths_of lent)) (n : ℕ) (nodes : n ≡ 8 ^ st.depth) where
-  pub parts_lent : PartsLent xs st lent.scratch n
-  parts_lent =
-      let s = lent.scratch in
-      let room = rooms xs st (lengths_of lent) passed n nodes in
-      record {
-        deep = passed.deep;
-        shallow = passed.shallow;
-        few = passed.few;
-        size0 = length-take-le n s.s0 room.0 ∙ nodes;
-        size1 = length-take-le n s.s1 room.1.0 ∙ nodes;
-        size2 = length-take-le n s.s2 room.1.1.0 ∙ nodes;
-        size3 = length-take-le n s.s3 room.1.1.1.0 ∙ nodes;
-        size4 = length-take-le n s.s4 room.1.1.1.1.0 ∙ nodes;
-        size5 = length-take-le n s.s5 room.1.1.1.1.1.0 ∙ nodes;
-        size6 = length-take-le n s.s6 room.1.1.1.1.1.1.0 ∙ nodes;
-        enough = passed.distances_fit;
-      }
+pub lent_room : {xs : List Float} {st : Settings} (vertices : List Float) (faces : List ℕ) {lent : Grids} (edges : List ℕ) {distances : List Float}
+    → ChecksPassed xs st (lengths_of (slices_of vertices faces lent edges distances)) → Lent xs st lent distances
+lent_room vertices faces edges passed =
+    let room = passed.grids_fit in
+    record {
+      deep = passed.deep;
+      shallow = passed.shallow;
+      few = passed.few;
+      room0 = room.0;
+      room1 = room.1.0;
+      room2 = room.1.1.0;
+      room3 = room.1.1.1.0;
+      room4 = room.1.1.1.1.0;
+      room5 = room.1.1.1.1.1.0;
+      room6 = room.1.1.1.1.1.1.0;
+      enough = passed.distances_fit;
+    }

@@ -7,9 +7,8 @@ use Rattle.points.specs.Points.{usables}
 use Rattle.settings.specs.declared.Settings.{Settings}
 use Rattle.settings.specs.declared.Lengths.{Lengths}
 use Rattle.answers.specs.declared.Answer.{Answer}
-use Rattle.answers.specs.declared.Verdict.{Verdict}
-use Rattle.answers.specs.declared.Verdict.TheVariants.{ScratchRoom}
-use Rattle.answers.specs.Answers.{accepts, answer_under, ◌when◌, ◌then◌}
+use Rattle.answers.specs.declared.Refusal.TheVariants.{ScratchRoom}
+use Rattle.answers.specs.Answers.{Verdict, accepts, answer_under, ◌when◌, ◌then◌}
 use Rattle.settings.specs.Refusals.{early_verdict, usable_verdict, extent_verdict}
 use Rattle.ending.specs.Slices.{Scratch}
 use Rattle.scan.specs.Reconstruction.{lengths_of, extent_for, field_for, level_for}

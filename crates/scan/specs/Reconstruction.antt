@@ -12,8 +12,7 @@ use Rattle.search.specs.Spacing.{spacing_of}
 use Rattle.settings.specs.declared.Settings.{Settings}
 use Rattle.settings.specs.declared.Lengths.{Lengths}
 use Rattle.answers.specs.declared.Answer.{Answer}
-use Rattle.answers.specs.declared.Verdict.{Verdict}
-use Rattle.answers.specs.Answers.{accepts, answer_under, ◌then◌}
+use Rattle.answers.specs.Answers.{Verdict, accepts, answer_under, ◌then◌}
 use Rattle.settings.specs.Refusals.{early_verdict, usable_verdict, extent_verdict, vertex_room_verdict, face_room_verdict, mesh_verdict}
 use Rattle.levels.specs.declared.Problem.{Problem}
 use Rattle.levels.specs.Levels.{solution}

@@ -1,17 +1,22 @@
 // Document 01, the stages of a call in the order of the data's way; the middle of `poisson_reconstruction` in the Rust's poisson.rs. What the two calls take
 // from below: the checks of the points, the grid, which is made once, and the field with its level; then what only the whole call needs, the mesh and the
-// answer. Lent slices have exactly the stated lengths here.
+// answer. Lent slices may be longer than stated: each stage takes their fronts.
 #![tactic(auto)]
 
-ghost use Rattle.std.specs.Prelude.{◌≡◌, ◌≤◌, length};
-ghost use Rattle.points.specs.Points.{usables};
+ghost use Rattle.std.specs.Prelude.{◌≡◌, ◌*◌, ◌≤◌, length, take};
+ghost use Rattle.grid.specs.Grid.{Sides, all_nodes, lattice_of};
+ghost use Rattle.points.specs.Points.{given, usables};
 ghost use Rattle.points.specs.Box.{bounds_of};
 ghost use Rattle.answers.specs.Answers.{◌then◌};
 ghost use Rattle.settings.specs.Refusals.{usable_verdict, extent_verdict};
+ghost use Rattle.extract.specs.Words.{Writable};
+ghost use Rattle.surface.specs.Surface.{level_of};
+ghost use Rattle.ending.specs.Slices.{SameGrids};
 ghost use Rattle.scan.specs.Reconstruction.{extent_for};
-ghost use Rattle.scan.specs.Words.{GridOver, Lent, Solved, MeshAsked, MeshMade, trimmed_answer};
+ghost use Rattle.scan.specs.Words.{GridOver, Lent, Solved, MeshAsked, MeshMade, WholeMade, mesh_outcome};
 
-use answers::{Answer, Verdict};
+use answers::{Answer, Refusal};
+use ending::Grids;
 use grid::Grid;
 use levels::Problem;
 use meshes::MeshSize;
@@ -19,13 +24,10 @@ use points::Bounds;
 use settings::Settings;
 
 // What the points themselves tell. 4: "fewer than 10 usable points". 5: "largest extent is zero".
-pub fn check_points(points: &[f32]) -> Verdict
+pub fn check_points(points: &[f32]) -> Result<(), Refusal>
     ensures { result ≡ usable_verdict (length (usables points.now)) then extent_verdict (extent_for (usables points.now)) }
 {
-    let count = settings::usable_verdict(points::usable_count(points));
-    let Verdict::Pass = count else {
-        return count;
-    };
+    settings::usable_verdict(points::usable_count(points))?;
     settings::extent_verdict(Bounds::of(points).extent())
 }
 
@@ -37,32 +39,19 @@ pub fn make_grid(bounds: Bounds, settings: Settings) -> Grid
     Grid::new(bounds.origin(), bounds.side(), settings.depth)
 }
 
-// Spacing, field, level: the field is left in s0 and the level is returned, all else is zero.
+// Spacing, field, level: the field is left in the first grid and the level is returned, all else is zero, as far as there are nodes.
 pub fn field_and_level(
     points: &[f32],
     settings: Settings,
     bounds: Bounds,
     g: Grid,
-    s0: &mut [f32],
-    s1: &mut [f32],
-    s2: &mut [f32],
-    s3: &mut [f32],
-    s4: &mut [f32],
-    s5: &mut [f32],
-    s6: &mut [f32],
+    grids: &mut Grids,
     distances: &mut [f32],
 ) -> f32
     requires bounds_value { (bounds ≡ bounds_of (usables points.now)) × GridOver bounds settings g }
-    requires lent { Lent points.now settings s0.old s1.old s2.old s3.old s4.old s5.old s6.old distances.old }
-    ensures { Solved (usables points.now) settings result
-        s0.new
-        s1.new
-        s2.new
-        s3.new
-        s4.new
-        s5.new
-        s6.new
-        distances.old distances.new }
+    requires lent { Lent points.now settings grids.old distances.old }
+    ensures same { SameGrids grids.old grids.new }
+    ensures solved { Solved (usables points.now) settings result grids.old grids.new distances.old distances.new }
 {
     let spacing = search::spacing(points, distances, bounds.extent());
     let origin = bounds.origin();
@@ -74,11 +63,57 @@ pub fn field_and_level(
         cap: settings.max_iterations,
         tolerance: settings.tolerance,
     };
-    levels::solve(problem, settings.depth, points, s0, s1, s2, s3, s4, s5, s6);
-    surface::level(g, s0, points, settings.iso_offset)
+    let n = settings::nodes(settings.depth);
+    levels::solve(
+        problem,
+        settings.depth,
+        points,
+        &mut grids.s0[..n],
+        &mut grids.s1[..n],
+        &mut grids.s2[..n],
+        &mut grids.s3[..n],
+        &mut grids.s4[..n],
+        &mut grids.s5[..n],
+        &mut grids.s6[..n],
+    );
+    level_of(points, settings, g, grids)
 }
 
-// Extraction, orientation and trim: the returned mesh stands at the front of its slices with zeros past it; the edge table and the three slices are zero.
+// The level of the field at the front of the first grid.
+fn level_of(points: &[f32], settings: Settings, g: Grid, grids: &Grids) -> f32
+    requires sides { Sides g.nodes }
+    requires room { all_nodes g ≤ length grids.now.s0.now }
+    requires points_bound { given points.now ≤ 1048576 }
+    ensures { result ≡ level_of g (take (all_nodes g) grids.now.s0.now) (usables points.now) settings.iso_offset }
+{
+    let n = g.len();
+    surface::level(g, &grids.s0[..n], points, settings.iso_offset)
+}
+
+// The mesh of the field at the front of the first grid, before any trimming: extracted, then oriented. The edge table's first entries are the numbers of its edges.
+fn make_whole(
+    g: Grid,
+    level: f32,
+    n: usize,
+    vertices: &mut [f32],
+    faces: &mut [u32],
+    grids: &Grids,
+    edges: &[u32],
+)
+    requires sides { Sides g.nodes × (n ≡ all_nodes g) }
+    requires room { (n ≤ length grids.now.s0.now) × (3 * n ≤ length edges.now) }
+    requires writable { Writable (take n grids.now.s0.now) (take (3 * n) edges.now) (lattice_of g) level vertices.old
+        faces.old }
+    ensures { WholeMade g (take n grids.now.s0.now) level vertices.old vertices.new faces.old faces.new }
+{
+    let e = 3 * n;
+    let field = &grids.s0[..n];
+    extract::write_mesh(field, g.lattice(), level, &edges[..e], vertices, faces);
+    orientation::orient(g, field, vertices, faces);
+}
+
+// Extraction, orientation and trim: the returned mesh stands at the front of its slices with zeros past it; the edge table and the second to fourth grid are
+// zero, as far as there are edges and nodes.
 pub fn make_mesh(
     points: &[f32],
     settings: Settings,
@@ -86,39 +121,48 @@ pub fn make_mesh(
     level: f32,
     vertices: &mut [f32],
     faces: &mut [u32],
-    field: &[f32],
-    a: &mut [f32],
-    b: &mut [f32],
-    c: &mut [f32],
+    grids: &mut Grids,
     edges: &mut [u32],
 ) -> MeshSize
-    requires { MeshAsked (usables points.now) settings g level vertices.old faces.old field.now a.old b.old c.old edges.old }
-    ensures { MeshMade (usables points.now) settings result
+    requires { MeshAsked (usables points.now) settings g level vertices.old faces.old grids.old edges.old }
+    ensures same { SameGrids grids.old grids.new }
+    ensures made { MeshMade (usables points.now) settings result
         vertices.old vertices.new
         faces.old faces.new
-        a.old a.new
-        b.old b.new
-        c.old c.new
+        grids.old grids.new
         edges.old edges.new }
 {
-    extract::write_mesh(field, g.lattice(), level, edges, vertices, faces);
-    orientation::orient(g, field, vertices, faces);
+    let n = settings::nodes(settings.depth);
+    let e = 3 * n;
+    make_whole(g, level, n, vertices, faces, grids, edges);
     let trimming = settings.trimming;
-    trim::trim(trimming, points, vertices, faces, edges, a, b, c)
+    trim::trim(
+        trimming,
+        points,
+        vertices,
+        faces,
+        &mut edges[..e],
+        &mut grids.s1[..n],
+        &mut grids.s2[..n],
+        &mut grids.s3[..n],
+    )
 }
 
 // 6, "no face .. after trimming"; or the answer with the box of the returned vertices.
-pub fn make_answer(usable: usize, level: f32, faces: usize, vertices: &[f32]) -> Answer
-    ensures { result ≡ trimmed_answer usable level faces vertices.now }
+#[tactic(auto, unfolding(crate::specs::Words::mesh_outcome))]
+pub fn make_answer(
+    usable: usize,
+    level: f32,
+    faces: usize,
+    vertices: &[f32],
+) -> Result<Answer, Refusal>
+    ensures { result ≡ mesh_outcome usable level faces vertices.now }
 {
-    let verdict = settings::mesh_verdict(faces);
-    let Verdict::Pass = verdict else {
-        return Answer::refused(verdict);
-    };
+    settings::mesh_verdict(faces)?;
     let reach = meshes::bounds(vertices);
     let low = reach.low;
     let high = reach.high;
-    Answer {
+    Ok(Answer {
         number: 0,
         usable,
         vertices: vertices.len() / 3,
@@ -126,5 +170,5 @@ pub fn make_answer(usable: usize, level: f32, faces: usize, vertices: &[f32]) ->
         level,
         low,
         high,
-    }
+    })
 }

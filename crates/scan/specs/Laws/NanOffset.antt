@@ -1,6 +1,6 @@
 -- Document 01, "Numbers of refusal": "an iso offset of NaN puts nothing below and gives 6". The level is NaN, no value is less than NaN, so every cell has
 -- case 0, whose row is empty, and the checks of the mesh end in 6. What the call then answers is `nan_offset_refused` of the crate `demands`. Assumes nothing.
-use Rattle.std.specs.Prelude.{◌≡◌, refl, Bool, false, ℕ, zero, suc, ◌-◌, ltb, Float}
+use Rattle.std.specs.Prelude.{◌≡◌, refl, Bool, false, ℕ, zero, suc, ◌-◌, ltb, Float, Err}
 use Rattle.std.proofs.Math.Path.{ap}
 use Rattle.std.proofs.Common.{◌∙◌}
 use mathlib.Core.List.{List, [], ◌++◌}
@@ -19,9 +19,8 @@ use Rattle.grid.specs.declared.Lattice.{Lattice}
 use Rattle.points.specs.declared.point.Point.{Point}
 use Rattle.settings.specs.declared.Settings.{Settings}
 use Rattle.settings.specs.declared.Lengths.{Lengths}
-use Rattle.answers.specs.declared.Verdict.{Verdict}
-use Rattle.answers.specs.declared.Verdict.TheVariants.{VertexRoom, FaceRoom, NoFace}
-use Rattle.answers.specs.Answers.{◌when◌, ◌then◌}
+use Rattle.answers.specs.declared.Refusal.TheVariants.{VertexRoom, FaceRoom, NoFace}
+use Rattle.answers.specs.Answers.{Verdict, ◌when◌, ◌then◌}
 use Rattle.settings.specs.Refusals.{vertex_room_verdict, face_room_verdict, mesh_verdict}
 use Rattle.cells.specs.Extraction.{is_below, below_at, count_x, count_y, count_z, edge_faces, vertex_edges}
 use Rattle.surface.specs.Surface.{level_of}
@@ -86,7 +85,7 @@ module _ (ps : List Point) (st : Settings) (e : st.iso_offset ≡ nan) where
   unfolding face_total
   no_face = ap length empty
 
-  pub nan_offset_no_face : (lent : Lengths) → late_verdict ps st lent ≡ NoFace
+  pub nan_offset_no_face : (lent : Lengths) → late_verdict ps st lent ≡ Err NoFace
   unfolding late_verdict mesh_verdict
   nan_offset_no_face lent =
       let kept = mesh_verdict (length (kept_faces ps st)) in
