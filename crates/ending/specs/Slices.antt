@@ -63,6 +63,16 @@ SameGrids g h =
       s6 = record g.s6 { now = h.s6.now };
     }
 
+-- each is as long as it was
+pub record SameLengths (g h : Grids) : Type 0 where
+  pub l0 : length h.s0.now ≡ length g.s0.now
+  pub l1 : length h.s1.now ≡ length g.s1.now
+  pub l2 : length h.s2.now ≡ length g.s2.now
+  pub l3 : length h.s3.now ≡ length g.s3.now
+  pub l4 : length h.s4.now ≡ length g.s4.now
+  pub l5 : length h.s5.now ≡ length g.s5.now
+  pub l6 : length h.s6.now ≡ length g.s6.now
+
 -- how long each is
 abbrev pub grid_lengths : Grids → List ℕ
 grid_lengths g =

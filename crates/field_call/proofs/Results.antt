@@ -1,7 +1,8 @@
 -- The results of a call for the field alone by the way that it went: refused, or solved; and what it tells that its checks pass. By the verdict's cases.
 -- Assumes nothing.
 use mathlib.Core.Path.{◌≡◌, refl, sym, ap, ◌∙◌, subst}
-use mathlib.Core.Bool.{Bool, false, cond}
+use mathlib.Core.Bool.{Bool}
+use Rattle.std.specs.Prelude.{Err}
 use mathlib.Core.List.{List, [], ◌++◌}
 use Prim.Native.Nat.{ℕ, ◌-◌, ◌^◌, ◌≤◌, ◌<◌}
 use native.Mathlib.Omega.{arith}
@@ -16,9 +17,9 @@ use Rattle.points.specs.Points.{usables}
 use Rattle.settings.specs.declared.Settings.{Settings}
 use Rattle.settings.specs.declared.Lengths.{Lengths}
 use Rattle.answers.specs.declared.Answer.{Answer}
-use Rattle.answers.specs.declared.Verdict.{Verdict}
-use Rattle.answers.specs.declared.Verdict.TheVariants.{Pass, ScratchRoom}
-use Rattle.answers.specs.Answers.{accepts, refused, ◌when◌, ◌then◌}
+use Rattle.answers.specs.declared.Refusal.{Refusal}
+use Rattle.answers.specs.declared.Refusal.TheVariants.{ScratchRoom}
+use Rattle.answers.specs.Answers.{Verdict, Pass, refused, ◌when◌, ◌then◌}
 use Rattle.settings.specs.Refusals.{early_verdict, usable_verdict, extent_verdict}
 use Rattle.answers.specs.Laws.InARow.{both_pass, unless}
 use Rattle.settings.specs.Laws.Passed.{ChecksPassed, ready}
@@ -30,7 +31,7 @@ use Rattle.field_call.specs.Words.{FieldShown}
 
 -- ---- the check of the values' slice in the row of checks
 
-pub too_short : (depth room : ℕ) (w : Verdict) → room < 8 ^ depth → ScratchRoom ≡ values_verdict depth room then w
+pub too_short : (depth room : ℕ) (w : Verdict) → room < 8 ^ depth → Err ScratchRoom ≡ values_verdict depth room then w
 unfolding values_verdict
 too_short depth room w h = sym (ap (λ (b : Bool). (ScratchRoom when b) then w) (lt-ltb room (8 ^ depth) h))
 
@@ -41,17 +42,13 @@ long_enough depth room {v} {w} h e = e ∙ sym (ap (λ (b : Bool). (ScratchRoom 
 -- ---- by the verdict
 
 module _ (xs : List Float) (st : Settings) (lent : Lengths) (field : List Float) {v : Verdict} (is : v ≡ field_verdict xs st lent (length field)) where
-  pub field_refused : (r : Answer) (field' : List Float) → accepts v ≡ false → r ≡ refused v → field' ≡ zeros32 (length field)
-      → FieldShown (field_results xs st lent (length field)) r field field'
+  pub field_refused : (field' : List Float) (x : Refusal) → v ≡ Err x → field' ≡ zeros32 (length field)
+      → FieldShown (field_results xs st lent (length field)) (refused x) field field'
   unfolding field_results
-  field_refused r field' a e z =
+  field_refused field' x e z =
       let ps = usables xs in
-      let all : length field ≡ length field - 0 = omega arith in
-      subst (λ (u : Verdict). FieldShown (field_under u ps st) r field field') is
-      (record {
-        answered = e ∙ sym (ap (λ (b : Bool). cond b (field_answer ps st) (refused v)) a);
-        values = z ∙ ap zeros32 all ∙ sym (ap (λ (b : Bool). padded zero32 (length field) (cond b (field_for ps st) [])) a);
-      })
+      subst (λ (u : Verdict). FieldShown (field_under u ps st) (refused x) field field') (sym e ∙ is)
+      (record { answered = refl; values = z ∙ ap zeros32 (omega arith) })
 
   pub field_ready : v ≡ Pass → ChecksPassed xs st lent × (8 ^ st.depth ≤ length field)
   unfolding field_verdict values_verdict
@@ -60,7 +57,7 @@ module _ (xs : List Float) (st : Settings) (lent : Lengths) (field : List Float)
       let last = usable_verdict (length (usables xs)) then extent_verdict (extent_for (usables xs)) in
       let a = both_pass (early_verdict xs st lent) (values_verdict st.depth (length field) then last) (sym is ∙ t) in
       let b = both_pass (values_verdict st.depth (length field)) last a.1 in
-      (ready xs st lent a.0, ltb-false (length field) n (unless ScratchRoom (ltb (length field) n) refl b.0))
+      (ready xs st lent a.0, ltb-false (length field) n (unless ScratchRoom (ltb (length field) n) b.0))
 
   pub field_passed : (r : Answer) (field' : List Float)
       → v ≡ Pass → r ≡ field_answer (usables xs) st → field' ≡ padded zero32 (length field) (field_for (usables xs) st)

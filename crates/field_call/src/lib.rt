@@ -2,7 +2,9 @@
 // the same ending. The Rust has no such function. Nothing is required. `poisson` passes it on.
 #![tactic(auto)]
 
-ghost use Rattle.std.specs.Prelude.{◌≡◌, ◌^◌, ◌≤◌, length};
+ghost use Rattle.std.specs.Prelude.{◌≡◌, ◌^◌, ◌≤◌, take, length};
+ghost use Rattle.answers.specs.Answers.{told};
+ghost use Rattle.ending.specs.Slices.{scratch_of, field_slices_of, SameGrids, SameLengths};
 ghost use Rattle.lists.specs.Lists.{zero32, padded};
 ghost use Rattle.points.specs.Points.{usables};
 ghost use Rattle.scan.specs.Reconstruction.{field_for};
@@ -11,21 +13,20 @@ ghost use Rattle.scan.specs.FieldAlone.{field_lengths, field_verdict, field_answ
 ghost use Rattle.field_call.specs.Outcome.{FieldDone};
 ghost use Rattle.field_call.specs.Words.{FieldShown};
 
-use answers::{Answer, Verdict};
+use answers::{Answer, Refusal};
+use ending::Grids;
 use points::Bounds;
 use settings::{Lengths, Settings};
 
 // The checks that do not speak of the mesh, in 01's order: 7, 1, 2, 3, 8, 4, 5. 8, "a scratch slice is shorter than stated", is also given where `field` has
 // less room than a value a node.
-fn check_field(points: &[f32], settings: Settings, lengths: Lengths, room: usize) -> Verdict
+#[tactic(auto, using(settings::specs::Laws::Passed::ready), unfolding(scan::specs::FieldAlone::field_verdict, scan::specs::FieldAlone::values_verdict))]
+fn check_field(points: &[f32], settings: Settings, lengths: Lengths, room: usize) -> Result<(), Refusal>
     ensures { result ≡ field_verdict points.now settings lengths room }
 {
-    let early = settings::early(points, settings, lengths);
-    let Verdict::Pass = early else {
-        return early;
-    };
+    settings::early(points, settings, lengths)?;
     if room < settings::nodes(settings.depth) {
-        return Verdict::ScratchRoom;
+        return Err(Refusal::ScratchRoom);
     }
     scan::check_points(points)
 }
@@ -35,10 +36,8 @@ fn copy_values(from: &[f32], to: &mut [f32])
     requires { length from.now ≡ length to.old }
     ensures { to.new ≡ from.now }
 {
-    let mut i = 0usize;
-    while i < to.len() {
-        to[i] = arith::canonical(from[i]);
-        i += 1;
+    for i in 0..to.len() {
+        to[i] = arith::canonical32(from[i]);
     }
 }
 
@@ -52,31 +51,32 @@ fn hand_over(values: &[f32], field: &mut [f32])
     lists::clear_from(field, n);
 }
 
-// The stages up to the level, in scratch of exactly the stated lengths.
+// The field at the front of the first grid goes to the front of `field`.
+fn hand_over_front(n: usize, grids: &Grids, field: &mut [f32])
+    requires { (n ≤ length grids.now.s0.now) × (n ≤ length field.old) }
+    ensures { field.new ≡ padded zero32 (length field.old) (take n grids.now.s0.now) }
+{
+    hand_over(&grids.s0[..n], field);
+}
+
+// The stages up to the level.
 fn solve_field(
     points: &[f32],
     settings: Settings,
     field: &mut [f32],
-    s0: &mut [f32],
-    s1: &mut [f32],
-    s2: &mut [f32],
-    s3: &mut [f32],
-    s4: &mut [f32],
-    s5: &mut [f32],
-    s6: &mut [f32],
+    grids: &mut Grids,
     distances: &mut [f32],
 ) -> Answer
     requires depth_in_bounds { 8 ^ settings.depth ≤ length field.old }
-    requires lent { Lent points.now settings s0.old s1.old s2.old s3.old s4.old s5.old s6.old distances.old }
-    ensures { (result ≡ field_answer (usables points.now) settings)
-        × (field.new ≡ padded zero32 (length field.old) (field_for (usables points.now) settings)) }
+    requires lent { Lent points.now settings grids.old distances.old }
+    ensures same { SameGrids grids.old grids.new × SameLengths grids.old grids.new }
+    ensures answered { result ≡ field_answer (usables points.now) settings }
+    ensures values { field.new ≡ padded zero32 (length field.old) (field_for (usables points.now) settings) }
 {
     let bounds = Bounds::of(points);
     let g = scan::make_grid(bounds, settings);
-    let level = scan::field_and_level(
-        points, settings, bounds, g, s0, s1, s2, s3, s4, s5, s6, distances,
-    );
-    hand_over(s0, field);
+    let level = scan::field_and_level(points, settings, bounds, g, grids, distances);
+    hand_over_front(g.len(), grids, field);
     Answer {
         number: 0,
         usable: points::usable_count(points),
@@ -93,67 +93,22 @@ fn refuse_or_solve(
     points: &[f32],
     settings: Settings,
     field: &mut [f32],
-    s0: &mut [f32],
-    s1: &mut [f32],
-    s2: &mut [f32],
-    s3: &mut [f32],
-    s4: &mut [f32],
-    s5: &mut [f32],
-    s6: &mut [f32],
+    grids: &mut Grids,
     edges: &[u32],
     distances: &mut [f32],
-) -> Answer
-    ensures { FieldShown
-        (field_results points.now settings
-        (field_lengths (record {
-          s0 = s0.old;
-          s1 = s1.old;
-          s2 = s2.old;
-          s3 = s3.old;
-          s4 = s4.old;
-          s5 = s5.old;
-          s6 = s6.old;
-          edges = edges.now;
-          distances = distances.old;
-        }))
-        (length field.old))
-        result field.old field.new }
+) -> Result<Answer, Refusal>
+    ensures same { SameGrids grids.old grids.new × SameLengths grids.old grids.new }
+    ensures shown { FieldShown
+        (field_results points.now settings (field_lengths (scratch_of grids.old edges.now distances.old)) (length field.old))
+        (told result) field.old field.new }
 {
-    let grids = [
-        s0.len(),
-        s1.len(),
-        s2.len(),
-        s3.len(),
-        s4.len(),
-        s5.len(),
-        s6.len(),
-    ];
-    let lengths = Lengths {
-        vertices: 0,
-        faces: 0,
-        grids,
-        edges: edges.len(),
-        distances: distances.len(),
-    };
-    let verdict = check_field(points, settings, lengths, field.len());
-    let Verdict::Pass = verdict else {
-        lists::clear(field);
-        return Answer::refused(verdict);
-    };
-    let n = settings::nodes(settings.depth);
-    solve_field(
-        points,
-        settings,
-        field,
-        &mut s0[..n],
-        &mut s1[..n],
-        &mut s2[..n],
-        &mut s3[..n],
-        &mut s4[..n],
-        &mut s5[..n],
-        &mut s6[..n],
-        distances,
-    )
+    let lengths = scan::lengths_of(&[], &[], grids, edges, distances);
+    let checked = check_field(points, settings, lengths, field.len());
+    if let Err(refusal) = checked {
+        lists::clear_f32(field);
+        return Err(refusal);
+    }
+    Ok(solve_field(points, settings, field, grids, distances))
 }
 
 // The field and the level in lent slices: an answer without a mesh, the N values at the front of `field`, and zeros everywhere else.
@@ -161,49 +116,16 @@ pub fn poisson_field(
     points: &[f32],
     settings: Settings,
     field: &mut [f32],
-    s0: &mut [f32],
-    s1: &mut [f32],
-    s2: &mut [f32],
-    s3: &mut [f32],
-    s4: &mut [f32],
-    s5: &mut [f32],
-    s6: &mut [f32],
+    grids: &mut Grids,
     edges: &mut [u32],
     distances: &mut [f32],
 ) -> Answer
-    ensures { FieldDone (field_results points.now settings) result
-        (record {
-          values = field.old;
-          scratch = record {
-            s0 = s0.old;
-            s1 = s1.old;
-            s2 = s2.old;
-            s3 = s3.old;
-            s4 = s4.old;
-            s5 = s5.old;
-            s6 = s6.old;
-            edges = edges.old;
-            distances = distances.old;
-          };
-        })
-        (record {
-          values = field.new;
-          scratch = record {
-            s0 = s0.new;
-            s1 = s1.new;
-            s2 = s2.new;
-            s3 = s3.new;
-            s4 = s4.new;
-            s5 = s5.new;
-            s6 = s6.new;
-            edges = edges.new;
-            distances = distances.new;
-          };
-        }) }
+    ensures same { SameGrids grids.old grids.new }
+    ensures done { FieldDone (field_results points.now settings) result
+        (field_slices_of field.old grids.old edges.old distances.old)
+        (field_slices_of field.new grids.new edges.new distances.new) }
 {
-    let answer = refuse_or_solve(
-        points, settings, field, s0, s1, s2, s3, s4, s5, s6, edges, distances,
-    );
-    ending::clear_scratch(s0, s1, s2, s3, s4, s5, s6, edges, distances);
-    answer
+    let outcome = refuse_or_solve(points, settings, field, grids, edges, distances);
+    ending::clear_scratch(grids, edges, distances);
+    Answer::told(outcome)
 }

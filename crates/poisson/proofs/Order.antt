@@ -8,8 +8,7 @@ use Rattle.points.specs.declared.point.Point.{Point}
 use Rattle.points.specs.Points.{usables}
 use Rattle.settings.specs.declared.Settings.{Settings}
 use Rattle.settings.specs.declared.Lengths.{Lengths}
-use Rattle.answers.specs.declared.Verdict.{Verdict}
-use Rattle.answers.specs.Answers.{◌then◌}
+use Rattle.answers.specs.Answers.{Verdict, ◌then◌}
 use Rattle.settings.specs.Refusals.{early_verdict, usable_verdict, extent_verdict, vertex_room_verdict, face_room_verdict, room_verdict, mesh_verdict}
 use Rattle.answers.specs.Laws.InARow.{then_assoc}
 use Rattle.scan.specs.Reconstruction.{extent_for, vertex_total, face_total, kept_faces, late_verdict, verdict_of}

@@ -1,7 +1,7 @@
 -- The results of a call by the way that it went: refused before any slice was touched, refused for want of room or of a face, or with a mesh. The verdict in
 -- the groups of Order decides which results there are, and Showing where they stand. Assumes nothing.
 use mathlib.Core.Path.{◌≡◌, refl, sym, ap, ap₂, ◌∙◌, subst}
-use mathlib.Core.Bool.{false}
+use Rattle.std.specs.Prelude.{Result, Err}
 use mathlib.Core.List.{List, ◌++◌, append_assoc}
 use Prim.Native.Nat.{ℕ, ◌-◌, ◌*◌, ◌≤◌}
 use native.Mathlib.Omega.{arith}
@@ -17,17 +17,16 @@ use Rattle.points.specs.Points.{usables}
 use Rattle.settings.specs.declared.Settings.{Settings}
 use Rattle.settings.specs.declared.Lengths.{Lengths}
 use Rattle.answers.specs.declared.Answer.{Answer}
-use Rattle.answers.specs.declared.Verdict.{Verdict}
-use Rattle.answers.specs.declared.Verdict.TheVariants.{Pass}
-use Rattle.answers.specs.Answers.{accepts, refused, answer_under, ◌then◌}
+use Rattle.answers.specs.declared.Refusal.{Refusal}
+use Rattle.answers.specs.Answers.{Verdict, Pass, refused, told, ◌then◌, ◌lets◌}
 use Rattle.settings.specs.Refusals.{early_verdict, usable_verdict, extent_verdict, room_verdict, mesh_verdict}
-use Rattle.answers.specs.Laws.InARow.{both_pass, refusal_stands}
+use Rattle.answers.specs.Laws.InARow.{both_pass}
 use Rattle.settings.specs.Laws.Passed.{ChecksPassed, ready, room_fits}
 use Rattle.meshes.specs.declared.MeshSize.{MeshSize}
 use Rattle.scan.specs.Reconstruction.{Results, grid_for, lattice_for, field_for, level_for, extent_for, vertex_total}
-use Rattle.scan.specs.Reconstruction.{face_total, kept_vertices, kept_faces, accepted_answer, late_verdict, results_under, reconstructed}
+use Rattle.scan.specs.Reconstruction.{face_total, kept_vertices, kept_faces, accepted_answer, late_verdict, verdict_of, results_under, reconstructed}
 use Rattle.ending.specs.Slices.{Slices}
-use Rattle.scan.specs.Words.{trimmed_answer}
+use Rattle.scan.specs.Words.{mesh_outcome}
 use Rattle.scan.specs.Laws.MeshRoom.{few_vertices, few_faces}
 use Rattle.poisson.specs.Outcome.{Done}
 use Rattle.poisson.specs.Words.{Shown}
@@ -49,12 +48,13 @@ few_totals ps st sides =
 
 module _ (xs : List Float) (st : Settings) (lent : Lengths) {v : Verdict}
     (is : v ≡ early_verdict xs st lent then usable_verdict (length (usables xs)) then extent_verdict (extent_for (usables xs))) where
-  pub first_refused : (r : Answer) (vs : List Float) (fs : List ℕ) → accepts v ≡ false → r ≡ refused v → Shown (reconstructed xs st lent) r vs fs
+  pub first_refused : (vs : List Float) (fs : List ℕ) (x : Refusal) (r : Result Answer Refusal) → v ≡ Err x → r ≡ Err x → Shown (reconstructed xs st lent) (told r) vs fs
   unfolding reconstructed
-  first_refused r vs fs a e =
+  first_refused vs fs x r e o =
       let l = late_verdict (usables xs) st lent in
-      let whole = first_checks xs st lent ∙ ap (λ (u : Verdict). u then l) (sym is) ∙ refusal_stands v l a in
-      subst (λ (u : Verdict). Shown (results_under u (usables xs) st) r vs fs) (sym whole) (refused_shown (usables xs) st r vs fs v a e)
+      let whole = first_checks xs st lent ∙ ap (λ (u : Verdict). u then l) (sym is ∙ e) in
+      subst (λ (a : Result Answer Refusal). Shown (results_under (verdict_of xs st lent) (usables xs) st) (told a) vs fs) (sym o)
+      (subst (λ (u : Verdict). Shown (results_under u (usables xs) st) (refused x) vs fs) (sym whole) (refused_shown (usables xs) st vs fs x))
 
   pub first_ready : v ≡ Pass → ChecksPassed xs st lent
   first_ready t =
@@ -91,12 +91,13 @@ module _ (ps : List Point) (st : Settings) (lent : Lengths) (counts : MeshSize) 
   same : v ≡ room_verdict (vertex_total ps st) (face_total ps st) lent then mesh_verdict (face_total ps st)
   same = is ∙ ap₂ (λ (a b : ℕ). room_verdict a b lent then mesh_verdict b) nv nf
 
-  pub mesh_refused : (r : Answer) (vs : List Float) (fs : List ℕ) → accepts v ≡ false → r ≡ refused v
-      → Shown (results_under (late_verdict ps st lent) ps st) r vs fs
-  mesh_refused r vs fs a e =
+  pub mesh_refused : (vs : List Float) (fs : List ℕ) (x : Refusal) (r : Result Answer Refusal) → v ≡ Err x → r ≡ Err x
+      → Shown (results_under (late_verdict ps st lent) ps st) (told r) vs fs
+  mesh_refused vs fs x r e o =
       let k = mesh_verdict (length (kept_faces ps st)) in
-      let whole = late_checks ps st lent ∙ ap (λ (u : Verdict). u then k) (sym same) ∙ refusal_stands v k a in
-      subst (λ (u : Verdict). Shown (results_under u ps st) r vs fs) (sym whole) (refused_shown ps st r vs fs v a e)
+      let whole = late_checks ps st lent ∙ ap (λ (u : Verdict). u then k) (sym same ∙ e) in
+      subst (λ (a : Result Answer Refusal). Shown (results_under (late_verdict ps st lent) ps st) (told a) vs fs) (sym o)
+      (subst (λ (u : Verdict). Shown (results_under u ps st) (refused x) vs fs) (sym whole) (refused_shown ps st vs fs x))
 
   pub mesh_room : v ≡ Pass → (3 * counts.vertices ≤ lent.vertices) × (3 * counts.faces ≤ lent.faces)
   mesh_room t =
@@ -108,20 +109,20 @@ module _ (ps : List Point) (st : Settings) (lent : Lengths) (counts : MeshSize) 
       (v_count : length (kept_vertices ps st) ≡ 3 * k) (f_count : length (kept_faces ps st) ≡ f)
       (places : vs1 ≡ padded zero32 n (kept_vertices ps st)) (numbers : fs1 ≡ padded 0 m (corners (kept_faces ps st)))
       {level : Float} (level_is : level ≡ level_for ps st) (all : usable ≡ length ps) where
-    pub mesh_shown : (r : Answer) → v ≡ Pass → r ≡ trimmed_answer usable level f (take (3 * k) (vs1 ++ v-rest))
-        → Shown (results_under (late_verdict ps st lent) ps st) r (vs1 ++ v-rest) (fs1 ++ f-rest)
-    unfolding trimmed_answer accepted_answer
+    pub mesh_shown : (r : Result Answer Refusal) → v ≡ Pass → r ≡ mesh_outcome usable level f (take (3 * k) (vs1 ++ v-rest))
+        → Shown (results_under (late_verdict ps st lent) ps st) (told r) (vs1 ++ v-rest) (fs1 ++ f-rest)
+    unfolding mesh_outcome accepted_answer
     mesh_shown r t e =
         let last = mesh_verdict (length (kept_faces ps st)) in
         let first = begins zero32 n (kept_vertices ps st) v-rest places in
         let here : take (3 * k) (vs1 ++ v-rest) ≡ kept_vertices ps st = ap (λ (j : ℕ). take j (vs1 ++ v-rest)) (sym v_count) ∙ first in
-        let answer : r ≡ answer_under last (accepted_answer ps st) = e ∙ (λ i. trimmed_answer (all i) (level_is i) (sym f_count i) (here i)) in
+        let outcome : r ≡ (last lets accepted_answer ps st) = e ∙ (λ i. mesh_outcome (all i) (level_is i) (sym f_count i) (here i)) in
         let whole = late_checks ps st lent ∙ ap (λ (u : Verdict). u then last) (sym same ∙ t) in
-        subst (λ (u : Verdict). Shown (results_under u ps st) r (vs1 ++ v-rest) (fs1 ++ f-rest)) (sym whole)
-        (made_shown ps st r (vs1 ++ v-rest) (fs1 ++ f-rest) k v_count
+        subst (λ (o : Result Answer Refusal). Shown (results_under (late_verdict ps st lent) ps st) (told o) (vs1 ++ v-rest) (fs1 ++ f-rest)) (sym outcome)
+        (subst (λ (u : Verdict). Shown (results_under u ps st) (told (last lets accepted_answer ps st)) (vs1 ++ v-rest) (fs1 ++ f-rest)) (sym whole)
+        (made_shown ps st (vs1 ++ v-rest) (fs1 ++ f-rest) k v_count
         (holds zero32 n (kept_vertices ps st) v-rest places) first
-        (holds 0 m (corners (kept_faces ps st)) f-rest numbers) (begins 0 m (corners (kept_faces ps st)) f-rest numbers)
-        last answer)
+        (holds 0 m (corners (kept_faces ps st)) f-rest numbers) (begins 0 m (corners (kept_faces ps st)) f-rest numbers) last))
 
 -- ---- the whole call
 

@@ -11,6 +11,9 @@ use Rattle.scan.proofs as fn
 pub check_points : OneOutcome contract.check_points.ended fn.check_points.Reads.Post
 check_points κs args o o' p q = same p q & refl
 
+pub lengths_of : OneOutcome contract.lengths_of.ended fn.lengths_of.Reads.Post
+lengths_of κs args o o' p q = same p q & refl
+
 pub make_grid : OneOutcome contract.make_grid.ended fn.make_grid.Reads.Post
 make_grid κs args o o' p q = same p.is q.is & refl
 

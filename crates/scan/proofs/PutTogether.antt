@@ -1,8 +1,9 @@
 -- What the first stages leave is what Reconstruction puts together: each stage's definition at the results of those before. By congruence, stage after
 -- stage. Assumes nothing.
-use mathlib.Core.Path.{◌≡◌, ap, ◌∙◌, subst}
+use Rattle.std.proofs.Common.{◌≡◌, sym, ap, ◌∙◌, subst, take, drop, length, arith}
+use Rattle.std.proofs.lemmas.List.{take_at, length-append}
 use mathlib.Core.List.{List}
-use Prim.Native.Nat.{ℕ, ◌*◌, ◌^◌}
+use Prim.Native.Nat.{ℕ, ◌*◌, ◌^◌, ◌≤◌}
 use lib.Ieee.{Float}
 use Rattle.grid.specs.declared.Grid.{Grid}
 use Rattle.grid.specs.declared.Lattice.{Lattice}
@@ -19,8 +20,9 @@ use Rattle.surface.specs.Surface.{level_of}
 use Rattle.levels.specs.declared.Problem.{Problem}
 use Rattle.levels.specs.Levels.{solution}
 use Rattle.scan.specs.Reconstruction.{problem_for, grid_for, lattice_for, field_for, level_for}
-use Rattle.scan.specs.Words.{GridOver}
-use Rattle.scan.specs.Laws.FieldLength.{cubed}
+use Rattle.ending.specs.declared.Grids.{Grids}
+use Rattle.scan.specs.Words.{GridOver, Solved}
+use Rattle.scan.specs.Laws.FieldLength.{cubed, field_length}
 
 -- ---- N
 
@@ -67,3 +69,14 @@ counted_is ps st {g} {x} {l} {level} {table} {r} grid field block top k =
     let a = subst (λ (v : List Float). Counted v table l level r) field k in
     let b = subst (λ (m : Lattice). Counted (field_for ps st) table m level r) (block ∙ ap lattice_of grid) a in
     subst (λ (t : Float). Counted (field_for ps st) table (lattice_for ps st) t r) top b
+
+-- ---- the field at the front of the first grid
+
+pub front_field : {ps : List Point} {st : Settings} {level : Float} {before after : Grids} {distances distances' : List Float} {n : ℕ}
+    → Solved ps st level before after distances distances' → n ≡ 8 ^ st.depth → (n ≤ length after.s0.now) × (take n after.s0.now ≡ field_for ps st)
+front_field {ps} {st} {before = before} {n = n} solved e =
+    let rest = drop (8 ^ st.depth) before.s0.now in
+    let size = field_length ps st in (
+      omega (arith, e, size, ap length solved.field, length-append (field_for ps st) rest),
+      ap (λ (s : List Float). take n s) solved.field ∙ take_at (field_for ps st) rest n (size ∙ sym e),
+    )

@@ -11,8 +11,8 @@ ghost use Rattle.answers.specs.Answers.{◌then◌};
 ghost use Rattle.settings.specs.Refusals.{usable_verdict, extent_verdict};
 ghost use Rattle.extract.specs.Words.{Writable};
 ghost use Rattle.surface.specs.Surface.{level_of};
-ghost use Rattle.ending.specs.Slices.{SameGrids};
-ghost use Rattle.scan.specs.Reconstruction.{extent_for};
+ghost use Rattle.ending.specs.Slices.{slices_of, SameGrids};
+ghost use Rattle.scan.specs.Reconstruction.{extent_for, lengths_of};
 ghost use Rattle.scan.specs.Words.{GridOver, Lent, Solved, MeshAsked, MeshMade, WholeMade, mesh_outcome};
 
 use answers::{Answer, Refusal};
@@ -21,7 +21,7 @@ use grid::Grid;
 use levels::Problem;
 use meshes::MeshSize;
 use points::Bounds;
-use settings::Settings;
+use settings::{Lengths, Settings};
 
 // What the points themselves tell. 4: "fewer than 10 usable points". 5: "largest extent is zero".
 pub fn check_points(points: &[f32]) -> Result<(), Refusal>
@@ -29,6 +29,26 @@ pub fn check_points(points: &[f32]) -> Result<(), Refusal>
 {
     settings::usable_verdict(points::usable_count(points))?;
     settings::extent_verdict(Bounds::of(points).extent())
+}
+
+// How long the lent slices are.
+pub fn lengths_of(
+    vertices: &[f32],
+    faces: &[u32],
+    grids: &Grids,
+    edges: &[u32],
+    distances: &[f32],
+) -> Lengths
+    ensures { result ≡ lengths_of (slices_of vertices.now faces.now grids.now edges.now distances.now) }
+{
+    let grid_lengths = grids.lengths();
+    Lengths {
+        vertices: vertices.len(),
+        faces: faces.len(),
+        grids: grid_lengths,
+        edges: edges.len(),
+        distances: distances.len(),
+    }
 }
 
 // The grid over the cube round the points.

@@ -1,5 +1,4 @@
 -- After i turns `to` is what came with the first i values written; the one NaN is itself, whatever its pattern.
-use Rattle.std.proofs.Common.{◌-◌, length}
 use Rattle.lists.specs.Lists.{at}
 use Rattle.lists.specs.Laws.Fill.{Filled}
 use Rattle.field_call.proofs.copy_values.Given as goal
@@ -7,5 +6,3 @@ use Rattle.field_call.proofs.copy_values.Given as goal
 abbrev pub invariant-loop-i : goal.invariant-loop-i
 invariant-loop-i l = Filled (at l.from) l.initial.to l.to l.i
 
-abbrev pub decreases-loop-i : goal.decreases-loop-i
-decreases-loop-i l = length l.initial.to - l.i
