@@ -9,16 +9,17 @@ ghost use Rattle.scan.specs.FieldAlone.{field_results};
 ghost use Rattle.capi.specs.Flat.{trimming_from, settings_from, counts_of, values_of, Told, FieldTold, default_words, default_values, default_tolerance};
 
 use answers::Answer;
-use settings::{Settings, Trimming};
+use ending::Grids;
+use settings::Settings;
 
 // 0 is off, all else is within the distance.
-fn trimming_from(trimming: u32, distance: f32) -> Trimming
+fn trimming_from(trimming: u32, distance: f32) -> Option<f32>
     ensures { result ≡ trimming_from trimming distance }
 {
     if trimming == 0 {
-        return Trimming::Off;
+        return None;
     }
-    Trimming::Within(distance)
+    Some(distance)
 }
 
 fn settings_from(
@@ -140,8 +141,17 @@ pub extern "C" fn poisson_reconstruct(
     let settings = settings_from(
         depth, smoothing, offset, trimming, distance, iterations, tolerance,
     );
+    let mut grids = Grids {
+        s0,
+        s1,
+        s2,
+        s3,
+        s4,
+        s5,
+        s6,
+    };
     let answer = poisson::poisson_reconstruction(
-        points, settings, vertices, faces, s0, s1, s2, s3, s4, s5, s6, edges, distances,
+        points, settings, vertices, faces, &mut grids, edges, distances,
     );
     put_counts(answer, counts);
     put_values(answer, values);
@@ -199,8 +209,17 @@ pub extern "C" fn poisson_reconstruct_default(
           };
         }) }
 {
+    let mut grids = Grids {
+        s0,
+        s1,
+        s2,
+        s3,
+        s4,
+        s5,
+        s6,
+    };
     let answer = poisson::poisson_reconstruction_default(
-        points, vertices, faces, s0, s1, s2, s3, s4, s5, s6, edges, distances,
+        points, vertices, faces, &mut grids, edges, distances,
     );
     put_counts(answer, counts);
     put_values(answer, values);
@@ -265,9 +284,16 @@ pub extern "C" fn poisson_field(
     let settings = settings_from(
         depth, smoothing, offset, trimming, distance, iterations, tolerance,
     );
-    let solved = poisson::poisson_field(
-        points, settings, field, s0, s1, s2, s3, s4, s5, s6, edges, distances,
-    );
+    let mut grids = Grids {
+        s0,
+        s1,
+        s2,
+        s3,
+        s4,
+        s5,
+        s6,
+    };
+    let solved = poisson::poisson_field(points, settings, field, &mut grids, edges, distances);
     put_counts(solved, counts);
     put_values(solved, values);
     solved.number

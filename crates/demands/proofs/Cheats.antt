@@ -18,8 +18,7 @@ use Rattle.cells.specs.Extraction.{below_at}
 use Rattle.points.specs.Points.{usables}
 use Rattle.settings.specs.declared.Settings.{Settings}
 use Rattle.answers.specs.declared.Answer.{Answer}
-use Rattle.answers.specs.declared.Verdict.TheVariants.{Pass}
-use Rattle.answers.specs.Answers.{number_of}
+use Rattle.answers.specs.Answers.{Pass, number_of}
 use Rattle.ending.specs.Slices.{Slices}
 use Rattle.scan.specs.Reconstruction.{Results, field_for, level_for, kept_vertices, kept_faces, lengths_of, verdict_of}
 use Rattle.demands.specs.Call.{Meets}

@@ -2,11 +2,11 @@
 -- padded from their start. Assumes nothing.
 use mathlib.Core.Path.{◌≡◌, refl, sym, ap, ◌∙◌, subst}
 use mathlib.Core.Logic.{◌≢◌}
-use mathlib.Core.Bool.{Bool, true, false, cond}
+use mathlib.Core.Bool.{cond}
+use Rattle.std.specs.Prelude.{Ok, Err}
 use mathlib.Core.List.{List, [], ◌∷◌}
 use Prim.Native.Nat.{ℕ, ◌-◌}
 use native.Mathlib.Omega.{arith}
-use borrow.Author.Tests.{eqb-true}
 use lib.ListN.{length, replicate}
 use lib.Ieee.{Float}
 use Rattle.lists.specs.Lists.{zero32, padded}
@@ -15,9 +15,9 @@ use Rattle.closed.specs.Faces.{corners}
 use Rattle.points.specs.Points.{usables}
 use Rattle.settings.specs.declared.Settings.{Settings}
 use Rattle.answers.specs.declared.Answer.{Answer}
-use Rattle.answers.specs.declared.Verdict.{Verdict}
-use Rattle.answers.specs.declared.Verdict.TheVariants.{Pass, PointSlice, NoPoints, Depth, Smoothing, ScratchRoom, TooFew, Flat, VertexRoom, FaceRoom, NoFace}
-use Rattle.answers.specs.Answers.{number_of, accepts, refused}
+use Rattle.answers.specs.declared.Refusal.{Refusal}
+use Rattle.answers.specs.declared.Refusal.TheVariants.{PointSlice, NoPoints, Depth, Smoothing, ScratchRoom, TooFew, Flat, VertexRoom, FaceRoom, NoFace}
+use Rattle.answers.specs.Answers.{Verdict, number_of, accepts, refused, answer_under}
 use Rattle.ending.specs.Slices.{Slices}
 use Rattle.scan.specs.Reconstruction.{kept_vertices, kept_faces, lengths_of, verdict_of, accepted_answer, reconstructed}
 use Rattle.demands.specs.Call.{Meets}
@@ -27,24 +27,22 @@ use Rattle.demands.proofs.Demand2.{number_told}
 -- every verdict has one of the ten numbers, or 0
 number_in : (v : Verdict) → In (number_of v) (0 ∷ refusals)
 unfolding member
-number_in Pass = refl
-number_in PointSlice = refl
-number_in NoPoints = refl
-number_in Depth = refl
-number_in Smoothing = refl
-number_in ScratchRoom = refl
-number_in TooFew = refl
-number_in Flat = refl
-number_in VertexRoom = refl
-number_in FaceRoom = refl
-number_in NoFace = refl
+number_in (Ok t) = refl
+number_in (Err PointSlice) = refl
+number_in (Err NoPoints) = refl
+number_in (Err Depth) = refl
+number_in (Err Smoothing) = refl
+number_in (Err ScratchRoom) = refl
+number_in (Err TooFew) = refl
+number_in (Err Flat) = refl
+number_in (Err VertexRoom) = refl
+number_in (Err FaceRoom) = refl
+number_in (Err NoFace) = refl
 
-not_accepted : (v : Verdict) → number_of v ≢ 0 → accepts v ≡ false
-not_accepted v h = by_cases (accepts v) refl
-  where
-    by_cases : (b : Bool) → accepts v ≡ b → accepts v ≡ false
-    by_cases true e = absurd (h (eqb-true (number_of v) 0 e))
-    by_cases false e = e
+-- a number that is not 0 is a refusal's
+refuses : (v : Verdict) → number_of v ≢ 0 → (x : Refusal) × (v ≡ Err x)
+refuses (Ok t) h = absurd (h refl)
+refuses (Err x) h = (x, refl)
 
 -- nothing, padded, is zeros
 none_padded : {A : Type 0} (z : A) (n : ℕ) → padded z n [] ≡ replicate n z
@@ -58,10 +56,11 @@ module _ (xs : List Float) (st : Settings) (before : Slices) (r : Answer) (after
   unfolding reconstructed
   refused_empty some =
       let ps = usables xs in
-      let none = not_accepted verdict (λ z. some (number_told xs st before r after met ∙ z)) in
-      let told : r ≡ refused verdict = met.answered ∙ ap (λ (b : Bool). cond b (accepted_answer ps st) (refused verdict)) none in
-      let no-vertices = met.vertices ∙ ap (λ (b : Bool). padded zero32 (length before.vertices) (cond b (kept_vertices ps st) [])) none in
-      let no_faces = met.faces ∙ ap (λ (b : Bool). padded 0 (length before.faces) (cond b (corners (kept_faces ps st)) [])) none in
+      let refusal = refuses verdict (λ z. some (number_told xs st before r after met ∙ z)) in
+      let none = refusal.1 in
+      let told : r ≡ refused refusal.0 = met.answered ∙ ap (λ (v : Verdict). answer_under v (accepted_answer ps st)) none in
+      let no-vertices = met.vertices ∙ ap (λ (v : Verdict). padded zero32 (length before.vertices) (cond (accepts v) (kept_vertices ps st) [])) none in
+      let no_faces = met.faces ∙ ap (λ (v : Verdict). padded 0 (length before.faces) (cond (accepts v) (corners (kept_faces ps st)) [])) none in
       record {
         usable_none = ap (λ (a : Answer). a.usable) told;
         vertices_none = ap (λ (a : Answer). a.vertices) told;

@@ -10,9 +10,7 @@ use Rattle.points.specs.declared.point.Point.{Point}
 use Rattle.points.specs.Points.{usables}
 use Rattle.settings.specs.declared.Settings.{Settings}
 use Rattle.answers.specs.declared.Answer.{Answer}
-use Rattle.answers.specs.declared.Verdict.{Verdict}
-use Rattle.answers.specs.declared.Verdict.TheVariants.{Pass}
-use Rattle.answers.specs.Answers.{number_of}
+use Rattle.answers.specs.Answers.{Verdict, Pass, number_of}
 use Rattle.answers.specs.Laws.InARow.{passed, number_under}
 use Rattle.ending.specs.Slices.{Slices, FieldSlices}
 use Rattle.scan.specs.Reconstruction.{Results, kept_vertices, kept_faces, lengths_of, verdict_of, accepted_answer, results_under, reconstructed}

@@ -7,9 +7,7 @@ use lib.Ieee.{Float, nan}
 use Rattle.points.specs.Points.{usables}
 use Rattle.settings.specs.declared.Settings.{Settings}
 use Rattle.answers.specs.declared.Answer.{Answer}
-use Rattle.answers.specs.declared.Verdict.{Verdict}
-use Rattle.answers.specs.declared.Verdict.TheVariants.{Pass}
-use Rattle.answers.specs.Answers.{number_of, ◌then◌}
+use Rattle.answers.specs.Answers.{Verdict, Pass, number_of, ◌then◌}
 use Rattle.settings.specs.Refusals.{early_verdict, usable_verdict, extent_verdict}
 use Rattle.ending.specs.Slices.{Slices}
 use Rattle.scan.specs.Reconstruction.{extent_for, lengths_of, late_verdict}

@@ -9,7 +9,6 @@ use Rattle.ending.proofs as fn
 pub lengths : OneOutcome contract.Grids.lengths.ended fn.Grids.lengths.Reads.Post
 lengths κs args o o' p q = same p q & refl
 
-
 pub clear_scratch : OneOutcome contract.clear_scratch.ended fn.clear_scratch.Reads.Post
 clear_scratch κs args o o' p q =
     refl

@@ -21,7 +21,12 @@ use settings::{Lengths, Settings};
 // The checks that do not speak of the mesh, in 01's order: 7, 1, 2, 3, 8, 4, 5. 8, "a scratch slice is shorter than stated", is also given where `field` has
 // less room than a value a node.
 #[tactic(auto, using(settings::specs::Laws::Passed::ready), unfolding(scan::specs::FieldAlone::field_verdict, scan::specs::FieldAlone::values_verdict))]
-fn check_field(points: &[f32], settings: Settings, lengths: Lengths, room: usize) -> Result<(), Refusal>
+fn check_field(
+    points: &[f32],
+    settings: Settings,
+    lengths: Lengths,
+    room: usize,
+) -> Result<(), Refusal>
     ensures { result ≡ field_verdict points.now settings lengths room }
 {
     settings::early(points, settings, lengths)?;

@@ -85,9 +85,7 @@ fn trim_as_chosen(
             vertices: vertices.len() / 3,
             faces: faces.len() / 3,
         },
-        Some(distance) => {
-            trim_within(distance, points, vertices, faces, table, a, b, c)
-        }
+        Some(distance) => { trim_within(distance, points, vertices, faces, table, a, b, c) }
     }
 }
 

@@ -5,4 +5,3 @@ use Rattle.field_call.proofs.copy_values.Given as goal
 
 abbrev pub invariant-loop-i : goal.invariant-loop-i
 invariant-loop-i l = Filled (at l.from) l.initial.to l.to l.i
-
