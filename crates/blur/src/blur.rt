@@ -57,7 +57,7 @@ fn blur_across(
     ensures { out.new ≡ tabulate (length out.old)
         (λ k. blur_by v.now (across first.0 stride k) n place kernel.now) }
 {
-    lists::clear_f32(out);
+    lists::clear(out);
     let radius = kernel.len() / 2;
     for t in 0..kernel.len() {
         add_row(out, v, first, stride, moved(place, t, radius, n), kernel[t]);
@@ -105,7 +105,7 @@ fn blur_along(out: &mut [f32], v: &[f32], kernel: &[f32])
     ensures { out.new ≡ tabulate (length out.old)
         (λ k. blur_by v.now (λ p. p) (length out.old) k kernel.now) }
 {
-    lists::clear_f32(out);
+    lists::clear(out);
     let radius = kernel.len() / 2;
     for t in 0..kernel.len() {
         add_along(out, v, t, radius, kernel[t]);

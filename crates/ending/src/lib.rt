@@ -40,15 +40,15 @@ pub fn clear_scratch(grids: &mut Grids, edges: &mut [u32], distances: &mut [f32]
     ensures same { SameGrids grids.old grids.new }
     ensures cleared { Cleared (scratch_of grids.old edges.old distances.old) (scratch_of grids.new edges.new distances.new) }
 {
-    lists::clear_f32(grids.s0);
-    lists::clear_f32(grids.s1);
-    lists::clear_f32(grids.s2);
-    lists::clear_f32(grids.s3);
-    lists::clear_f32(grids.s4);
-    lists::clear_f32(grids.s5);
-    lists::clear_f32(grids.s6);
-    lists::clear_u32(edges);
-    lists::clear_f32(distances);
+    lists::clear(grids.s0);
+    lists::clear(grids.s1);
+    lists::clear(grids.s2);
+    lists::clear(grids.s3);
+    lists::clear(grids.s4);
+    lists::clear(grids.s5);
+    lists::clear(grids.s6);
+    lists::clear(edges);
+    lists::clear(distances);
 }
 
 // Clears the vertex slice from element `v` on, the face slice from `w` on, and all scratch.
@@ -65,7 +65,7 @@ pub fn tidy(
     ensures tidied { Tidied v w (slices_of vertices.old faces.old grids.old edges.old distances.old)
         (slices_of vertices.new faces.new grids.new edges.new distances.new) }
 {
-    lists::clear_from_f32(vertices, v);
-    lists::clear_from_u32(faces, w);
+    lists::clear_from(vertices, v);
+    lists::clear_from(faces, w);
     clear_scratch(grids, edges, distances);
 }

@@ -60,7 +60,7 @@ fn any_row(g: Grid, b: &mut [f32], x: &[f32], y: &[f32], z: &[f32], row: usize, 
     ensures { b.new ≡ tabulate g.nodes (λ k. right_side_at g.nodes h x.now y.now z.now (row * g.nodes + k)) }
 {
     if g.boundary_row(row) {
-        lists::clear_f32(b);
+        lists::clear(b);
     } else {
         inner_row(b, x, y, z, g.row_start(row), h);
     }

@@ -81,8 +81,8 @@ pub fn right_side(
 {
     let kernel = Kernel::new(Kernel::sigma(smoothing, spacing, g.step));
     right_side_by(points, g, kernel.weights(), b, s, x, y, z);
-    lists::clear_f32(s);
-    lists::clear_f32(x);
-    lists::clear_f32(y);
-    lists::clear_f32(z);
+    lists::clear(s);
+    lists::clear(x);
+    lists::clear(y);
+    lists::clear(z);
 }

@@ -46,7 +46,7 @@ pub fn splat(g: Grid, points: &[f32], a: usize, v: &mut [f32])
     requires { Spread g v.old a }
     ensures { v.new ≡ splatted g (usables points.now) a }
 {
-    lists::clear_f32(v);
+    lists::clear(v);
     for i in 0..Point::given(points) {
         add_usable(v, g, Point::read(points, i), a);
     }

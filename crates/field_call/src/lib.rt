@@ -42,7 +42,7 @@ fn copy_values(from: &[f32], to: &mut [f32])
     ensures { to.new ≡ from.now }
 {
     for i in 0..to.len() {
-        to[i] = arith::canonical32(from[i]);
+        to[i] = arith::canonical(from[i]);
     }
 }
 
@@ -110,7 +110,7 @@ fn refuse_or_solve(
     let lengths = scan::lengths_of(&[], &[], grids, edges, distances);
     let checked = check_field(points, settings, lengths, field.len());
     if let Err(refusal) = checked {
-        lists::clear_f32(field);
+        lists::clear(field);
         return Err(refusal);
     }
     Ok(solve_field(points, settings, field, grids, distances))

@@ -50,7 +50,7 @@ fn long(x: f32, y: f32, z: f32) -> bool
     if square > 0.000000000000000000000001 && square < 1000000000000000000000000000000.0 {
         return true;
     }
-    judge(arith::root32(square)).is_ok()
+    judge(arith::root(square)).is_ok()
 }
 
 impl Point {

@@ -106,6 +106,6 @@ pub fn spacing(points: &[f32], list: &mut [f32], extent: f64) -> f64
 {
     let s = lists::stride_for(1000, usable_count(points));
     let middle = median(points, list, s);
-    lists::clear_f32(list);
+    lists::clear(list);
     arith::largest(arith::widen(middle), extent * 0.000001)
 }

@@ -44,7 +44,7 @@ fn one_turn(
     ensures { Turned g limit (record { x = x.old; r = r.old; p = p.old; rr = rr }) result x.new r.new
         p.new }
 {
-    if arith::root64(rr) <= limit {
+    if arith::root(rr) <= limit {
         return None;
     }
     apply(g, p, ap);
@@ -110,7 +110,7 @@ fn descend(
     requires b_len { length b.now ≡ all_nodes g }
     ensures { x.new ≡ conjugate g tolerance cap b.now x.old }
 {
-    let norm = arith::root64(dot(g, b, b));
+    let norm = arith::root(dot(g, b, b));
     if norm == 0.0 {
         return;
     }

@@ -13,8 +13,8 @@ new-kernel-requires c = subst (λ (z : Float). radius_of z ≤ 18) (sym c.sigma.
 pub returns : goal.returns
 returns c = (
   by_kernel c.args.g (usables c.args.points.now) c.args.spacing c.args.smoothing c.sigma.ensures c.new-kernel.ensures c.weights.ensures c.right_side_by.ensures,
-  c.clear_f32.ensures ∙ ap zeros32 (c.right_side_by.auto.s ∙ c.requires.2),
-  c.clear_f32-2.ensures ∙ ap zeros32 (c.right_side_by.auto.x ∙ c.requires.3),
-  c.clear_f32-3.ensures ∙ ap zeros32 (c.right_side_by.auto.y ∙ c.requires.4),
-  c.clear_f32-4.ensures ∙ ap zeros32 (c.right_side_by.auto.z ∙ c.requires.5),
+  c.clear.ensures ∙ ap zeros32 (c.right_side_by.auto.s ∙ c.requires.2),
+  c.clear-2.ensures ∙ ap zeros32 (c.right_side_by.auto.x ∙ c.requires.3),
+  c.clear-3.ensures ∙ ap zeros32 (c.right_side_by.auto.y ∙ c.requires.4),
+  c.clear-4.ensures ∙ ap zeros32 (c.right_side_by.auto.z ∙ c.requires.5),
 )

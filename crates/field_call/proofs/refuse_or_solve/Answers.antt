@@ -9,7 +9,7 @@ use Rattle.field_call.proofs.refuse_or_solve.Goals as goal
 pub returns-in-Err-clause-shown : goal.returns-in-Err-clause-shown
 returns-in-Err-clause-shown c =
     let is = c.check_field-checked.ensures ∙ ap (λ (l : Lengths). field_verdict c.args.points.now c.args.settings l (length c.args.field.now)) c.lengths_of-lengths.ensures in
-    field_refused _ c.args.settings _ c.args.field.now is _ _ c.in-Err.is c.clear_f32.ensures
+    field_refused _ c.args.settings _ c.args.field.now is _ _ c.in-Err.is c.clear.ensures
 
 pub solve_field-requires-clause-depth_in_bounds : goal.solve_field-requires-clause-depth_in_bounds
 solve_field-requires-clause-depth_in_bounds c =

@@ -9,7 +9,7 @@ use Rattle.blur.proofs.blur.blur_across.Goals as goal
 
 pub loop-t-init : goal.loop-t-init
 loop-t-init c =
-    (c.clear_f32.ensures ∙ ap zeros32 (sym c.clear_f32.auto.values) ∙ blur_none c.args.v.now c.args.kernel.now c.args.n _ (length c.clear_f32.new.values) (across c.args.first.0 c.args.stride) (λ _. c.args.place), refl)
+    (c.clear.ensures ∙ ap zeros32 (sym c.clear.auto.values) ∙ blur_none c.args.v.now c.args.kernel.now c.args.n _ (length c.clear.new.values) (across c.args.first.0 c.args.stride) (λ _. c.args.place), refl)
 
 pub add_row-requires : goal.add_row-requires
 add_row-requires c =
@@ -17,4 +17,4 @@ add_row-requires c =
     (moved_reach c.args.n _ c.args.place c.loop-t.t c.args.first.0 c.args.stride (length c.loop-t.out) (length c.args.v.now) (λ p h. omega (arith, c.requires.3 p h)))
 
 pub loop-t-preserved : goal.loop-t-preserved
-loop-t-preserved c = (blur_more c.args.v.now c.args.kernel.now c.args.n _ (length c.clear_f32.new.values) (across c.args.first.0 c.args.stride) (λ _. c.args.place) c.loop-t.t (λ _. _) c.loop-t.invariant.0 (λ k h. c.moved.ensures) c.add_row.ensures, refl)
+loop-t-preserved c = (blur_more c.args.v.now c.args.kernel.now c.args.n _ (length c.clear.new.values) (across c.args.first.0 c.args.stride) (λ _. c.args.place) c.loop-t.t (λ _. _) c.loop-t.invariant.0 (λ k h. c.moved.ensures) c.add_row.ensures, refl)

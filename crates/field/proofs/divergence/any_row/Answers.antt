@@ -13,7 +13,7 @@ inner_row-requires c =
     rw c.requires.2 (omega (arith, c.row_start.ensures, c.requires.0.two, c.requires.0.most))
 
 pub returns-then-boundary_row : goal.returns-then-boundary_row
-returns-then-boundary_row c = c.clear_f32.ensures ∙ boundary_row_is c.args.g.nodes c.args.h c.args.x.now c.args.y.now c.args.z.now c.args.row c.requires.2 (sym c.boundary_row.ensures ∙ c.if-boundary_row.true)
+returns-then-boundary_row c = c.clear.ensures ∙ boundary_row_is c.args.g.nodes c.args.h c.args.x.now c.args.y.now c.args.z.now c.args.row c.requires.2 (sym c.boundary_row.ensures ∙ c.if-boundary_row.true)
 
 pub returns-else-boundary_row : goal.returns-else-boundary_row
 returns-else-boundary_row c = c.inner_row.ensures ∙ inner_row_is c.args.g.nodes c.args.h c.args.x.now c.args.y.now c.args.z.now c.args.row c.requires.2 c.row_start.ensures (sym c.boundary_row.ensures ∙ c.if-boundary_row.false)

@@ -12,7 +12,7 @@ use Rattle.field.proofs.splat.splat.Goals as goal
 
 pub loop-i-init : goal.loop-i-init
 loop-i-init c =
-    let zeros = c.clear_f32.ensures ∙ ap zeros32 c.requires.1 in
+    let zeros = c.clear.ensures ∙ ap zeros32 c.requires.1 in
     (subst (λ (v : List Float). FoldedUsable (point_added c.args.g c.args.a) (zeros32 (all_nodes c.args.g)) c.args.points.now v 0) (sym zeros) folded_none, ap length zeros ∙ length-replicate _ _, c.given-i-end.ensures)
 
 pub loop-i-preserved : goal.loop-i-preserved

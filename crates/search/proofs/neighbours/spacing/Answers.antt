@@ -7,4 +7,4 @@ use Rattle.search.proofs.neighbours.spacing.Goals as goal
 
 pub returns : goal.returns
 unfolding spacing_of
-returns c = (rw (millionth_is, c.largest.ensures, c.widen.ensures, c.median-middle.ensures, c.stride_for-s.ensures, c.usable_count.ensures), c.clear_f32.ensures ∙ ap zeros32 c.median-middle.auto.list)
+returns c = (rw (millionth_is, c.largest.ensures, c.widen.ensures, c.median-middle.ensures, c.stride_for-s.ensures, c.usable_count.ensures), c.clear.ensures ∙ ap zeros32 c.median-middle.auto.list)
