@@ -11,10 +11,10 @@ use Rattle.cells.proofs as fn
 pub below : OneOutcome contract.cell.below.ended fn.cell.below.Reads.Post
 below κs args o o' p q = same p q & refl
 
-pub side_of : OneOutcome contract.cell.side_of.ended fn.cell.side_of.Reads.Post
+pub side_of : OneOutcome contract.Isosurface.side_of.ended fn.Isosurface.side_of.Reads.Post
 side_of κs args o o' p q = same p q & refl
 
-pub is_plain : OneOutcome contract.cell.is_plain.ended fn.cell.is_plain.Reads.Post
+pub is_plain : OneOutcome contract.Isosurface.is_plain.ended fn.Isosurface.is_plain.Reads.Post
 is_plain κs args o o' p q = same p q & refl
 
 pub edge_offsets : OneOutcome contract.cell.edge_offsets.ended fn.cell.edge_offsets.Reads.Post
@@ -25,5 +25,5 @@ cell_edge κs args o o' p q = by_edge (same p q) & refl
 
 -- ---- vertex.rt
 
-pub point : OneOutcome contract.vertex.point.ended fn.vertex.point.Reads.Post
+pub point : OneOutcome contract.Isosurface.point.ended fn.Isosurface.point.Reads.Post
 point κs args o o' p q = same p q & refl

@@ -1,10 +1,10 @@
 -- The second pass whole: with the first pass's table, a vertex is written exactly at the first use of its edge, so the coordinates come in the order of the
 -- vertices; and the faces are those of the mesh. Assumes nothing.
-use mathlib.Core.Path.{◌≡◌, refl, sym, ap, ◌∙◌}
+use mathlib.Core.Path.{◌≡◌, refl, sym, ap, ◌∙◌, subst}
 use mathlib.Core.Logic.{⊎_elim}
 use mathlib.Core.Bool.{Bool, false, cond, ◌||◌}
 use mathlib.Core.List.{List, [], ◌∷◌, ◌++◌, map, append-nil, append_assoc}
-use Prim.Native.Nat.{ℕ, ◌+◌, ◌-◌, ◌*◌, ◌≤◌, ◌<◌}
+use Prim.Native.Nat.{ℕ, ◌+◌, ◌*◌, ◌≤◌, ◌<◌}
 use native.Mathlib.Omega.{arith}
 use borrow.Author.Tests.{eq-eqb, ne_eqb}
 use lib.Dec.{eqb}
@@ -22,12 +22,12 @@ use Rattle.grid.specs.Grid.{Counts}
 use Rattle.grid.specs.declared.Lattice.{Lattice}
 use Rattle.cells.specs.Extraction.{count_x, count_y, count_z, points_of, edge_point, edge_faces, vertex_edges, extracted_faces, extracted_vertices}
 use Rattle.meshes.specs.declared.MeshSize.{MeshSize}
-use Rattle.cells.specs.Laws.Cells.{edges_below, block_faces_lem}
+use Rattle.cells.specs.Words.{Inner}
+use Rattle.cells.specs.Laws.Cells.{edges_below, edges_inner}
 use Rattle.closed.proofs.Laws.Turning.{length_corners}
-use Rattle.cells.specs.Words.{block_faces}
 use Rattle.numbering.specs.Words.{none, edge_table}
 use Rattle.extract.specs.Words.{Places, place1, place_all, vertex_in, RoomFor, Written, Mesh}
-use Rattle.extract.proofs.Placing.{sets_append}
+use Rattle.extract.specs.Laws.Placing.{sets_append}
 
 -- ---- the coordinates of several edges
 
@@ -109,37 +109,43 @@ extracted_length values l iso = mesh_length (edge_faces values l iso)
 
 -- ---- both, for a lattice
 
+both : (P Q : ℕ → Type 0) (es : List ℕ) → All P es → All Q es → All (λ e. P e × Q e) es
+both P Q [] p q = tt
+both P Q (e ∷ es) p q = ((p.0, q.0), both P Q es p.1 q.1)
+
+pub edges_all : (values : List Float) (l : Lattice) (iso : Float) → Counts l.counts → length values ≡ count_x l * count_y l * count_z l
+    → (table : List ℕ) → length table ≡ 3 * (count_x l * count_y l * count_z l)
+    → All (λ e. (e < length table) × Inner values l e) (corners (edge_faces values l iso))
+edges_all values l iso counts nodes table e =
+    both (λ e. e < length table) (λ e. Inner values l e) (corners (edge_faces values l iso))
+    (subst (λ (n : ℕ). All (λ e. e < n) (corners (edge_faces values l iso))) (sym e) (edges_below values l iso counts))
+    (edges_inner values l iso counts nodes)
+
 module _ (values : List Float) (l : Lattice) (iso : Float) (counts : Counts l.counts) (table : List ℕ) (numbers : table ≡ edge_table values l iso)
     (vs : List Float) (os : List ℕ) (points : length vs ≡ 3 * length (vertex_edges values l iso)) (triples : length os ≡ 3 * length (edge_faces values l iso)) where
   three : (e : ℕ) → length (edge_point values l iso e) ≡ 3
   unfolding edge_point
   three e = refl
 
-  all_placed : place_all table (edge_point values l iso) (vs, 0) (corners (block_faces values (count_y l) (count_z l) iso (count_x l - 1)))
+  all_placed : place_all table (edge_point values l iso) (vs, 0) (corners (edge_faces values l iso))
       ≡ (sets vs 0 (points_of (edge_point values l iso) (vertex_edges values l iso)), length (vertex_edges values l iso))
   unfolding vertex_edges used dedup points_of
   all_placed =
-      ap (λ (fs : List Face). place_all table (edge_point values l iso) (vs, 0) (corners fs)) (block_faces_lem values l iso counts)
-      ∙ ap (λ (t : List ℕ). place_all t (edge_point values l iso) (vs, 0) (corners (edge_faces values l iso))) numbers
+      ap (λ (t : List ℕ). place_all t (edge_point values l iso) (vs, 0) (corners (edge_faces values l iso))) numbers
       ∙ placed (3 * (count_x l * count_y l * count_z l)) (vertex_edges values l iso) (edge_point values l iso) three vs [] (corners (edge_faces values l iso))
       (edges_below values l iso counts) refl
 
-  pub room_all : RoomFor table (edge_point values l iso) vs os none (block_faces values (count_y l) (count_z l) iso (count_x l - 1))
-  room_all =
-      record {
-        vertices = omega (arith, points, ap (λ (s : Places). s.1) all_placed);
-        faces = omega (arith, triples, ap length (block_faces_lem values l iso counts));
-      }
+  pub room_all : RoomFor table (edge_point values l iso) vs os none (edge_faces values l iso)
+  room_all = record { vertices = omega (arith, points, ap (λ (s : Places). s.1) all_placed); faces = omega (arith, triples) }
 
-  faces_are : map (vertex_in table) (corners (block_faces values (count_y l) (count_z l) iso (count_x l - 1))) ≡ corners (extracted_faces values l iso)
+  faces_are : map (vertex_in table) (corners (edge_faces values l iso)) ≡ corners (extracted_faces values l iso)
   unfolding extracted_faces vertex_edges
   faces_are =
-      ap (λ (fs : List Face). map (vertex_in table) (corners fs)) (block_faces_lem values l iso counts)
-      ∙ ap (λ (t : List ℕ). map (vertex_in t) (corners (edge_faces values l iso))) numbers
+      ap (λ (t : List ℕ). map (vertex_in t) (corners (edge_faces values l iso))) numbers
       ∙ vertices_of (3 * (count_x l * count_y l * count_z l)) (edge_faces values l iso) (edges_below values l iso counts)
 
   pub mesh_all : (vs' : List Float) (os' : List ℕ) (r : MeshSize)
-      → Written table (edge_point values l iso) vs vs' os os' none r (block_faces values (count_y l) (count_z l) iso (count_x l - 1)) → Mesh values l iso vs' os'
+      → Written table (edge_point values l iso) vs vs' os os' none r (edge_faces values l iso) → Mesh values l iso vs' os'
   unfolding extracted_vertices
   mesh_all vs' os' r w =
       record {

@@ -2,11 +2,13 @@
 -- words of Extraction are in proofs/. Definitions only; assumes nothing.
 use Rattle.std.specs.Prelude.{◌≡◌, cond, List, [], ◌∷◌, map, ℕ, ◌+◌, ◌-◌, ◌*◌, ◌≤◌, ◌<◌, eqb, Float, length, get_or}
 use Rattle.std.proofs.lemmas.List.Edits.{sets}
+use Rattle.closed.specs.Lists.{All}
 use Rattle.closed.specs.Faces.{Face, corners}
 use Rattle.grid.specs.Grid.{Counts}
 use Rattle.grid.specs.declared.Lattice.{Lattice}
-use Rattle.cells.specs.Extraction.{count_y, count_z, edge_faces, vertex_edges, extracted_faces, extracted_vertices}
+use Rattle.cells.specs.Extraction.{edge_faces, vertex_edges, edge_point, extracted_faces, extracted_vertices}
 use Rattle.cells.specs.Words.{Inner}
+use Rattle.cells.specs.declared.Isosurface.{Isosurface}
 use Rattle.meshes.specs.declared.MeshSize.{MeshSize}
 use Rattle.numbering.specs.Words.{Numberable, edge_table}
 
@@ -38,17 +40,15 @@ pub record RoomFor (table : List ℕ) (point : ℕ → List Float) (vs : List Fl
   pub vertices : 3 * (place_all table point (vs, had.vertices) (corners fs)).1 ≤ length vs
   pub faces : 3 * (had.faces + length fs) ≤ length os
 
--- the edges of a cell, from `first` on, lie in a table of m and have both their nodes
-abbrev pub EdgesOf : (values : List Float) (l : Lattice) (offsets : List ℕ) (first m : ℕ) → Type 0
-EdgesOf values l offsets first m =
-    (e : ℕ) → e < 12 → (first + get_or offsets e 0 < m) × (first + get_or offsets e 0 < 50331648) × Inner values l (first + get_or offsets e 0)
+-- where the vertex on an edge of a surface lies
+abbrev pub point_of : Isosurface → ℕ → List Float
+point_of x = edge_point x.values.now x.lattice x.iso
 
--- the lattice, its values and its edge table; and the line of cells from node n on, with the four rows of nodes round it
-pub record CellsInside (values : List Float) (table : List ℕ) (l : Lattice) (n : ℕ) : Type 0 where
-  pub counts : Counts l.counts
-  pub nodes : n + count_y l * count_z l + (count_z l + count_z l) ≤ length values
-  pub edges : length table ≡ 3 * length values
-  pub most : length values ≤ 16777216
+-- the faces fs may be written: their edges are in the table and have both their nodes, and there is room
+pub record Placeable (x : Isosurface) (table : List ℕ) (vs : List Float) (os : List ℕ) (had : MeshSize) (fs : List Face) : Type 0 where
+  pub counts : Counts x.lattice.counts
+  pub edges : All (λ e. (e < length table) × Inner x.values.now x.lattice e) (corners fs)
+  pub room : RoomFor table (point_of x) vs os had fs
 
 -- ---- what the pass asks and promises
 

@@ -2,9 +2,10 @@
 -- words of Extraction are in proofs/. Definitions only; assumes nothing.
 use Rattle.std.specs.Prelude.{◌≡◌, cond, List, [], ◌∷◌, ℕ, ◌+◌, ◌*◌, ◌≤◌, ◌<◌, eqb, Float, length, get_or, set}
 use Rattle.lists.specs.Lists.{tabulate}
+use Rattle.closed.specs.Lists.{All}
 use Rattle.closed.specs.Faces.{Face, corners}
 use Rattle.closed.specs.Numbering.{slot}
-use Rattle.grid.specs.Grid.{Counts, plane_start}
+use Rattle.grid.specs.Grid.{Counts}
 use Rattle.grid.specs.declared.Lattice.{Lattice}
 use Rattle.cells.specs.Extraction.{count_x, count_y, count_z, edge_faces, vertex_edges}
 use Rattle.meshes.specs.declared.MeshSize.{MeshSize}
@@ -22,11 +23,6 @@ unfoldable pub mark_all : Marks → List ℕ → Marks
 mark_all s [] = s
 mark_all s (e ∷ es) = mark_all (mark1 s e) es
 
--- what is known when the cells up to node n are passed: at most fifteen of each a cell
-pub record Few (t : MeshSize) (n : ℕ) : Type 0 where
-  pub vertices : t.vertices ≤ 15 * n
-  pub faces : t.faces ≤ 15 * n
-
 abbrev pub none : MeshSize
 none = record { vertices = 0; faces = 0 }
 
@@ -35,13 +31,11 @@ pub record Numbered (t t' : List ℕ) (had got : MeshSize) (fs : List Face) : Ty
   pub marks : ◌≡◌ {A = Marks} (t', got.vertices) (mark_all (t, had.vertices) (corners fs))
   pub counted : got.faces ≡ had.faces + length fs
 
--- what a line from node n asks: cells in the values, edges in the table, few numbers so far
-pub record Line (values : List Float) (table : List ℕ) (ny nz n : ℕ) (had : MeshSize) : Type 0 where
-  pub two : 2 ≤ nz
-  pub inside : n + ny * nz + nz + nz ≤ length values
-  pub edges : length table ≡ 3 * length values
-  pub most : length values ≤ 16777216
-  pub few : Few had n
+-- the faces fs may be gone through: their edges are in the table, and there are few enough
+pub record Markable (table : List ℕ) (had : MeshSize) (fs : List Face) : Type 0 where
+  pub edges : All (λ e. e < length table) (corners fs)
+  pub vertices : had.vertices + 3 * length fs ≤ 4294967295
+  pub faces : had.faces + length fs ≤ 4294967295
 
 -- ---- what the pass asks and promises
 
@@ -50,12 +44,6 @@ pub record Numberable (values : List Float) (table : List ℕ) (l : Lattice) : T
   pub counts : Counts l.counts
   pub nodes : length values ≡ count_x l * count_y l * count_z l
   pub edges : length table ≡ 3 * (count_x l * count_y l * count_z l)
-
--- and plane i of them, before which there are few numbers
-pub record Plane (values : List Float) (table : List ℕ) (l : Lattice) (i : ℕ) (had : MeshSize) : Type 0 where
-  pub all : Numberable values table l
-  pub inside : i + 1 < count_x l
-  pub few : Few had (plane_start (count_y l) (count_z l) i)
 
 -- each edge's number: one more than its vertex, or 0
 abbrev pub edge_table : (values : List Float) (l : Lattice) (iso : Float) → List ℕ

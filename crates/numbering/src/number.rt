@@ -1,14 +1,11 @@
 // The first pass: every edge that a face uses gets its vertex number, at first use, in a lent table, and V and F are counted.
-ghost use Rattle.std.specs.Prelude.{◌≡◌, [], ◌∷◌, ◌+◌, ◌-◌, ◌*◌, ◌<◌, ◌≤◌, length, get_or};
-ghost use Rattle.closed.specs.Faces.{face_of, map_face, corners};
-ghost use Rattle.closed.specs.Rows.{flat_table, emitted};
-ghost use Rattle.grid.specs.Grid.{plane_start};
-ghost use Rattle.cells.specs.Extraction.{count_x, count_y, count_z};
-ghost use Rattle.cells.specs.Words.{row_faces, line_faces, plane_faces, block_faces, edge_offsets, EdgesIn, CubeFace};
-ghost use Rattle.numbering.specs.Words.{mark1, mark_all, Few, none, Numbered, Line, Plane, Numberable, Counted};
+ghost use Rattle.std.specs.Prelude.{◌≡◌, ◌<◌, length};
+ghost use Rattle.numbering.specs.Words.{mark1, Markable, Numbered, Numberable, Counted};
+ghost use Rattle.numbering.specs.Laws.Marking.{numbered_none, numbered_append, markable_next};
+ghost use Rattle.std.proofs.Common.{refl, ◌∙◌};
 
-use cells::{cell_edge, edge_offsets, is_plain, side_of};
-use grid::{Edge, Lattice, Node};
+use cells::{Isosurface, Visit};
+use grid::{Edge, Lattice};
 use meshes::MeshSize;
 
 // An edge gets the next number unless it has one: the table holds one more than the vertex, 0 where there is none. The answer is how many have one.
@@ -24,218 +21,31 @@ fn mark(table: &mut [u32], edge: Edge, count: usize) -> usize
     count
 }
 
-// The three edges of a face, in order.
-fn mark_face(
-    table: &mut [u32],
-    first: Edge,
-    face: [usize; 3],
-    count: usize,
-    offsets: &[usize; 12],
-) -> usize
-    requires { EdgesIn offsets.now first.0 (length table.old) × CubeFace face × (count ≤ 4294967200) }
-    ensures { (table.new, result) ≡ mark_all (table.old, count)
-        (corners (map_face (λ e. first.0 + get_or offsets.now e 0) (face_of face) ∷ [])) }
-{
-    let a = mark(table, cell_edge(first, face[0], offsets), count);
-    let b = mark(table, cell_edge(first, face[1], offsets), a);
-    mark(table, cell_edge(first, face[2], offsets), b)
+// The table, and how many vertices and faces it has numbers of so far.
+#[derive(Drop)]
+struct Numbering<'a> {
+    table: &'a mut [u32],
+    size: MeshSize,
 }
 
-// The edges of a case's faces, in the order of its row.
-fn mark_row(
-    table: &mut [u32],
-    first: Edge,
-    case: usize,
-    faces: usize,
-    count: usize,
-    offsets: &[usize; 12],
-    triangles: &[i8; 4096],
-) -> usize
-    requires { EdgesIn offsets.now first.0 (length table.old)
-        × (case < 256)
-        × (faces ≡ length (emitted case))
-        × (count ≤ 4294960000)
-        × (triangles.now ≡ flat_table) }
-    ensures { (table.new, result) ≡ mark_all (table.old, count) (corners (row_faces offsets.now first.0 case)) }
-{
-    let mut n = count;
-    let mut k = 0usize;
-    while k < faces {
-        let face = cubes::row_face(triangles, case, k);
-        n = mark_face(table, first, face, n, offsets);
-        k += 1;
-    }
-    n
-}
+impl Visit for Numbering<'_> {
+    ghost Ready = { λ s fs. Markable s.table.now s.size fs };
 
-// A cell's edges and faces. Cases 0 and 255 have none and cost no row.
-fn number_cell(
-    table: &mut [u32],
-    first: Edge,
-    case: usize,
-    had: MeshSize,
-    offsets: &[usize; 12],
-    triangles: &[i8; 4096],
-) -> MeshSize
-    requires { EdgesIn offsets.now first.0 (length table.old)
-        × (case < 256)
-        × (had.vertices ≤ 4294960000)
-        × (had.faces ≤ 4294960000)
-        × (triangles.now ≡ flat_table) }
-    ensures { Numbered table.old table.new had result (row_faces offsets.now first.0 case) }
-{
-    if case == 0 {
-        return had;
-    }
-    if case == 255 {
-        return had;
-    }
-    let faces = cubes::row_faces(triangles, case);
-    let vertices = mark_row(table, first, case, faces, had.vertices, offsets, triangles);
-    MeshSize {
-        vertices,
-        faces: had.faces + faces,
-    }
-}
+    ghost Visited = { λ s t fs. (t.table.ghost_name ≡ s.table.ghost_name) × Numbered s.table.now t.table.now s.size t.size fs };
 
-// The cells of a line from a node on, along the last axis, one after the other.
-fn number_cells(
-    table: &mut [u32],
-    values: &[f32],
-    ny: usize,
-    nz: usize,
-    from: Node,
-    iso: f32,
-    had: MeshSize,
-    offsets: &[usize; 12],
-    triangles: &[i8; 4096],
-) -> MeshSize
-    requires { Line values.now table.old ny nz from.0 had × (offsets.now ≡ edge_offsets ny nz) × (triangles.now ≡ flat_table) }
-    ensures { Numbered table.old table.new had result (line_faces values.now ny nz iso from.0 (nz - 1))
-        × Few result (from.0 + nz) }
-{
-    let mut near = side_of(values, ny, nz, from, iso);
-    let mut vertices = had.vertices;
-    let mut faces = had.faces;
-    let mut k = 0usize;
-    while k + 1 < nz {
-        let far = side_of(values, ny, nz, from.after(k + 1), iso);
-        let first = Edge::of(from.after(k), 0);
-        let got = number_cell(
-            table,
-            first,
-            near + 16 * far,
-            MeshSize { vertices, faces },
-            offsets,
-            triangles,
-        );
-        vertices = got.vertices;
-        faces = got.faces;
-        near = far;
-        k += 1;
+    // The three edges of a face, in order.
+    fn visit(&mut self, a: Edge, b: Edge, c: Edge) {
+        let count = mark(self.table, a, self.size.vertices);
+        let count = mark(self.table, b, count);
+        self.size.vertices = mark(self.table, c, count);
+        self.size.faces += 1;
     }
-    MeshSize { vertices, faces }
-}
 
-// The same. A plain line has no face, and is passed over.
-fn number_line(
-    table: &mut [u32],
-    values: &[f32],
-    ny: usize,
-    nz: usize,
-    from: Node,
-    iso: f32,
-    had: MeshSize,
-    offsets: &[usize; 12],
-    triangles: &[i8; 4096],
-) -> MeshSize
-    requires { Line values.now table.old ny nz from.0 had × (offsets.now ≡ edge_offsets ny nz) × (triangles.now ≡ flat_table) }
-    ensures { Numbered table.old table.new had result (line_faces values.now ny nz iso from.0 (nz - 1))
-        × Few result (from.0 + nz) }
-{
-    if is_plain(values, ny, nz, from, iso) {
-        return had;
-    }
-    number_cells(table, values, ny, nz, from, iso, had, offsets, triangles)
-}
+    ghost visited_none = { λ s. (refl, numbered_none) };
 
-// The lines of plane i, along the middle axis.
-fn number_plane(
-    table: &mut [u32],
-    values: &[f32],
-    lattice: Lattice,
-    i: usize,
-    iso: f32,
-    had: MeshSize,
-    offsets: &[usize; 12],
-    triangles: &[i8; 4096],
-) -> MeshSize
-    requires { Plane values.now table.old lattice i had
-        × (offsets.now ≡ edge_offsets (count_y lattice) (count_z lattice))
-        × (triangles.now ≡ flat_table) }
-    ensures { Numbered table.old table.new had result
-        (plane_faces values.now (count_y lattice) (count_z lattice) iso i (count_y lattice - 1))
-        × Few result (plane_start (count_y lattice) (count_z lattice) (i + 1)) }
-{
-    let ny = lattice.counts[1];
-    let nz = lattice.counts[2];
-    let mut vertices = had.vertices;
-    let mut faces = had.faces;
-    let mut j = 0usize;
-    while j + 1 < ny {
-        let got = number_line(
-            table,
-            values,
-            ny,
-            nz,
-            lattice.line_start(i, j),
-            iso,
-            MeshSize { vertices, faces },
-            offsets,
-            triangles,
-        );
-        vertices = got.vertices;
-        faces = got.faces;
-        j += 1;
-    }
-    MeshSize { vertices, faces }
-}
+    ghost visited_append = { λ s t u fs gs v w. (w.0 ∙ v.0, numbered_append v.1 w.1) };
 
-// The planes, along the first axis.
-fn number_planes(
-    table: &mut [u32],
-    values: &[f32],
-    lattice: Lattice,
-    iso: f32,
-    offsets: &[usize; 12],
-    triangles: &[i8; 4096],
-) -> MeshSize
-    requires { Numberable values.now table.old lattice
-        × (offsets.now ≡ edge_offsets (count_y lattice) (count_z lattice))
-        × (triangles.now ≡ flat_table) }
-    ensures { Numbered table.old table.new none result
-        (block_faces values.now (count_y lattice) (count_z lattice) iso (count_x lattice - 1)) }
-{
-    let nx = lattice.counts[0];
-    let mut vertices = 0usize;
-    let mut faces = 0usize;
-    let mut i = 0usize;
-    while i + 1 < nx {
-        let got = number_plane(
-            table,
-            values,
-            lattice,
-            i,
-            iso,
-            MeshSize { vertices, faces },
-            offsets,
-            triangles,
-        );
-        vertices = got.vertices;
-        faces = got.faces;
-        i += 1;
-    }
-    MeshSize { vertices, faces }
+    ghost ready_next = { λ s t fs gs hs r v. markable_next fs gs hs r v.1 };
 }
 
 // "A vertex is numbered at first use": the table of 3N elements, which may hold anything, is cleared and filled; the answer is V and F.
@@ -243,8 +53,17 @@ pub fn number_edges(values: &[f32], lattice: Lattice, iso: f32, table: &mut [u32
     requires { Numberable values.now table.old lattice }
     ensures { Counted values.now table.new lattice iso result }
 {
-    let offsets = edge_offsets(lattice);
-    let triangles = cubes::triangle_table();
-    lists::clear(table);
-    number_planes(table, values, lattice, iso, &offsets, &triangles)
+    lists::clear_u32(table);
+    let surface = Isosurface {
+        values,
+        lattice,
+        iso,
+    };
+    let size = MeshSize {
+        vertices: 0,
+        faces: 0,
+    };
+    let mut numbering = Numbering { table, size };
+    surface.visit_faces(&mut numbering);
+    numbering.size
 }

@@ -1,7 +1,7 @@
 -- A cell named by the number of its corner 0 is the cell of its position: numbers of nodes add up, so corners and edges lie at fixed offsets.
 -- So the faces that the loops go through, cell by cell, are `grid_faces`. Assumes nothing.
-use Rattle.std.specs.Prelude.{◌≡◌, refl, Bool, ℕ, zero, suc, ◌+◌, ◌-◌, ◌*◌, ◌≤◌, ◌<◌, Float}
-use Rattle.std.proofs.Common.{sym, ap₂, ◌∙◌, add-mul, mul-le-mul_right, one-mul}
+use Rattle.std.specs.Prelude.{◌≡◌, refl, Bool, ℕ, zero, suc, ◌+◌, ◌-◌, ◌*◌, ◌%◌, ◌≤◌, ◌<◌, Float}
+use Rattle.std.proofs.Common.{sym, ap₂, ◌∙◌, add-mul, mul-le-mul, mul-le-mul_right, mul_assoc, one-mul, length}
 use Rattle.std.proofs.Math.Path.{ap}
 use mathlib.Core.List.{List, [], ◌∷◌, map}
 use native.Mathlib.Omega.{arith}
@@ -12,19 +12,19 @@ use Rattle.closed.specs.Lists.{bit, All, cells3}
 use Rattle.closed.specs.Faces.{Face, face, map_face, corners}
 use Rattle.closed.specs.Table.{corner_at, low_of, cube_axis, case_of}
 use Rattle.closed.specs.Rows.{emitted}
-use Rattle.closed.specs.Grid.{node, edge, corner_below, cell_case, cell_edge, cell_faces, grid_faces}
+use Rattle.closed.specs.Grid.{node, edge, corner_below, cell_case, cell_edge, cell_faces, grid_faces, Crossed, along_x, along_y, along_z}
 use Rattle.closed.proofs.Laws.Counting.{bit_le, cells_cong, all_map}
-use Rattle.closed.proofs.Laws.Bounds.{case_of_lt}
+use Rattle.closed.proofs.Laws.Bounds.{case_of_lt, faces_le}
 use Rattle.closed.proofs.Laws.Renumber.{in_all}
-use Rattle.closed.proofs.Laws.Crossings.{used_crossed, crossed_lt}
-use Rattle.grid.specs.Grid.{Counts, Position, node_at}
+use Rattle.closed.proofs.Laws.Crossings.{used_crossed, crossed_lt, node_lt}
+use Rattle.grid.specs.Grid.{Counts, Position, node_at, node_of}
 use Rattle.grid.specs.Laws.Numbering.{line_node}
 use Rattle.grid.specs.declared.Lattice.{Lattice}
 use Rattle.cubes.specs.Words.{place_of}
 use Rattle.cubes.specs.Laws.Edges.{in_cube, axis_small}
 use Rattle.cubes.specs.Laws.Emitted.{emitted_edges}
 use Rattle.cells.specs.Extraction.{is_below, below_at, count_x, count_y, count_z, below, edge_faces, unit}
-use Rattle.cells.specs.Words.{node_offset, edge_offset, stride, side_at, case_at, row_faces, edge_offsets, faces_at, block_faces}
+use Rattle.cells.specs.Words.{node_offset, edge_offset, stride, side_at, case_at, row_faces, edge_offsets, faces_at, block_faces, Inner}
 
 -- ---- numbers of nodes add up
 
@@ -170,3 +170,48 @@ module _ (values : List Float) (l : Lattice) (iso : Float) (counts : Counts l.co
   pub block_faces_lem : block_faces values (count_y l) (count_z l) iso (count_x l - 1) ≡ edge_faces values l iso
   unfolding edge_faces
   block_faces_lem = block_is_grid values (count_x l) (count_y l) (count_z l) iso
+
+  -- five a cell
+  pub few_faces : length (edge_faces values l iso) ≤ 5 * (count_x l * count_y l * count_z l)
+  unfolding edge_faces
+  few_faces =
+      let x = count_x l in
+      let y = count_y l in
+      let z = count_z l in
+      let one : (z - 1) * 5 ≤ z * 5 = mul-le-mul {n₁ = z - 1} {m₁ = 5} {n₂ = z} {m₂ = 5} (omega arith) (omega arith) in
+      let two : (y - 1) * ((z - 1) * 5) ≤ y * (z * 5) = mul-le-mul (omega arith) one in
+      let three : (x - 1) * ((y - 1) * ((z - 1) * 5)) ≤ x * (y * (z * 5)) = mul-le-mul (omega arith) two in
+      let same : x * (y * (z * 5)) ≡ x * y * z * 5 = sym (mul_assoc x y (z * 5)) ∙ sym (mul_assoc (x * y) z 5) in
+      omega (arith, faces_le x y z (below values l iso), three, same)
+
+  -- and where there is a value for each node, each edge has one at both its nodes
+  module _ (nodes : length values ≡ count_x l * count_y l * count_z l) where
+    inner_along : (axis i j k e : ℕ) → axis < 3 → i + unit axis 0 < count_x l → j + unit axis 1 < count_y l → k + unit axis 2 < count_z l
+        → e ≡ edge (node (count_y l) (count_z l) i j k) axis → Inner values l e
+    unfolding edge
+    inner_along axis i j k e b hi hj hk p =
+        let n : node_of e ≡ node (count_y l) (count_z l) i j k = omega (arith, p, b) in
+        let x : e % 3 ≡ axis = omega (arith, p, b) in
+        let s = ap (stride (count_y l) (count_z l)) x ∙ sym (unit_stride (count_y l) (count_z l) axis b) in
+        record {
+          upper = omega (
+            arith,
+            n,
+            s,
+            node_add (count_y l) (count_z l) i j k (unit axis 0) (unit axis 1) (unit axis 2),
+            node_lt (count_x l) (count_y l) (count_z l) _ _ _ hi hj hk,
+            nodes,
+          );
+          most = omega (arith, nodes, counts.most);
+        }
+
+    inner_crossed : (e : ℕ) → Crossed (count_x l) (count_y l) (count_z l) (below values l iso) e → Inner values l e
+    inner_crossed e (along_x i j k bi bj bk p h) = inner_along 0 i j k e (omega arith) bi (omega (arith, bj)) (omega (arith, bk)) p
+    inner_crossed e (along_y i j k bi bj bk p h) = inner_along 1 i j k e (omega arith) (omega (arith, bi)) bj (omega (arith, bk)) p
+    inner_crossed e (along_z i j k bi bj bk p h) = inner_along 2 i j k e (omega arith) (omega (arith, bi)) (omega (arith, bj)) bk p
+
+    pub edges_inner : All (λ e. Inner values l e) (corners (edge_faces values l iso))
+    unfolding edge_faces
+    edges_inner =
+        in_all (λ e. Inner values l e) (corners (grid_faces (count_x l) (count_y l) (count_z l) (below values l iso)))
+        (λ e m. inner_crossed e (used_crossed (count_x l) (count_y l) (count_z l) counts.two_x counts.two_y counts.two_z (below values l iso) e m))

@@ -1,5 +1,4 @@
--- `cells::vertex::stride_of` meets its contract.
--- Assumes nothing.
+-- Each arm is that of the definition, by the tests that lead to it. Assumes nothing.
 use Rattle.std.proofs.Common.{refl, eq-eqb, ne_eqb}
 use Rattle.cells.specs.Words.{stride}
 use Rattle.cells.proofs.vertex.stride_of.Goals as goal
@@ -12,6 +11,6 @@ pub returns-then-axis-eq1 : goal.returns-then-axis-eq1
 unfolding stride
 returns-then-axis-eq1 c = rw (ne_eqb c.args.axis 0 c.if-axis-eq0.false, eq-eqb c.args.axis 1 c.if-axis-eq1.true) refl
 
-pub returns : goal.returns
+pub returns-else-axis-eq1 : goal.returns-else-axis-eq1
 unfolding stride
-returns c = rw (ne_eqb c.args.axis 0 c.if-axis-eq0.false, ne_eqb c.args.axis 1 c.if-axis-eq1.false) refl
+returns-else-axis-eq1 c = rw (ne_eqb c.args.axis 0 c.if-axis-eq0.false, ne_eqb c.args.axis 1 c.if-axis-eq1.false) refl
