@@ -47,12 +47,12 @@ pub edges_of : (offsets : List ℕ) (first : ℕ) (l : List ℕ) {f : Face} {a b
 edges_of offsets first l {f} {a} {b} {c} e p q r = subst (λ (x : Face). map_face (λ e. first + get_or offsets e 0) x ∷ [] ≡ face a b c ∷ []) e (rw (p, q, r) refl)
 
 -- and each is one of the cube's twelve, and near enough to be read
-pub row_edges : (offsets : List ℕ) (first case k : ℕ) (l : List ℕ) {m : ℕ} → EdgesIn offsets first m → case < 256 → k < length (emitted case) → face_of l ≡ get_or (emitted case) k (face 0 0 0)
+pub row_edges : (offsets : List ℕ) (first case k : ℕ) (l : List ℕ) {m n : ℕ} → EdgesIn offsets first m → case < 256 → k < n → n ≡ length (emitted case) → face_of l ≡ get_or (emitted case) k (face 0 0 0)
     → (i : ℕ) → i < 3 → (get_or l i 0 < 12) × (first + get_or offsets (get_or l i 0) 0 < 50331648)
-row_edges offsets first case k l inside h b e = at
+row_edges offsets first case k l inside h b len e = at
   where
     its : CubeFace l
-    its = cube_face case k l h b e
+    its = cube_face case k l h (omega (arith, b, len)) e
 
     read : (x : ℕ) → x < 12 → (x < 12) × (first + get_or offsets x 0 < 50331648)
     read x t = (t, omega (arith, inside.0 x t, inside.1))
@@ -86,12 +86,12 @@ module _ {S : Type 0} (Visited : S → S → List Face → Type 0) where
 
   -- ---- the faces of a row, one after the other, as code has them
 
-  module _ (offsets : List ℕ) (first case k : ℕ) (l : List ℕ) {a b c : ℕ} (h : k < length (emitted case)) (e : face_of l ≡ get_or (emitted case) k (face 0 0 0))
+  module _ (offsets : List ℕ) (first case k : ℕ) (l : List ℕ) {n a b c : ℕ} (h : k < n) (len : n ≡ length (emitted case)) (e : face_of l ≡ get_or (emitted case) k (face 0 0 0))
       (p : a ≡ first + get_or offsets (get_or l 0 0) 0) (q : b ≡ first + get_or offsets (get_or l 1 0) 0) (r : c ≡ first + get_or offsets (get_or l 2 0) 0) where
     pub row_more : ((s t u : S) (fs gs : List Face) → Visited s t fs → Visited t u gs → Visited s u (fs ++ gs))
         → {s t u : S} → Visited s t (first_faces offsets first case k) → Visited t u (face a b c ∷ []) → Visited s u (first_faces offsets first case (k + 1))
     row_more append {s} {t} {u} v w =
-        subst (Visited s u) (sym (one_more offsets first case k h))
+        subst (Visited s u) (sym (one_more offsets first case k (omega (arith, h, len))))
         (append s t u _ _ v (subst (Visited t u) (sym (edges_of offsets first l e p q r)) w))
 
     pub row_next : (Ready : S → List Face → Type 0) → ((s t : S) (fs gs hs : List Face) → Ready s (fs ++ gs ++ hs) → Visited s t fs → Ready t gs)
@@ -100,4 +100,4 @@ module _ {S : Type 0} (Visited : S → S → List Face → Type 0) where
         let rest : List Face = map (map_face (λ e. first + get_or offsets e 0)) (drop (k + 1) (emitted case)) in
         subst (Ready t) (edges_of offsets first l e p q r)
         (next s t (first_faces offsets first case k) _ rest
-        (subst (Ready s) (rest_faces offsets first case (k + 1) ∙ ap (λ (l : List Face). l ++ rest) (one_more offsets first case k h)) x) v)
+        (subst (Ready s) (rest_faces offsets first case (k + 1) ∙ ap (λ (l : List Face). l ++ rest) (one_more offsets first case k (omega (arith, h, len)))) x) v)

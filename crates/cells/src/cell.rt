@@ -3,6 +3,7 @@ ghost use Rattle.std.specs.Prelude.{◌≡◌, ◌+◌, ◌*◌, ◌<◌, ◌≤
 ghost use Rattle.closed.specs.Lists.{bit};
 ghost use Rattle.grid.specs.Grid.{Counts};
 ghost use Rattle.cells.specs.Extraction.{is_below, count_y, count_z};
+ghost use Rattle.cells.specs.Surface.{SideInside, LineInside};
 ghost use Rattle.cells.specs.Words.{side_at, below_count, plain_line, edge_offset, edge_offsets};
 
 use crate::Isosurface;
@@ -25,7 +26,7 @@ impl Isosurface<'_> {
     // The bits of the side of cells at a node: corners 0, 1, 2, 3 of the cell there, in the order of the corner list, and corners 4, 5, 6, 7 of the cell
     // before. A case is a near side and sixteen times the far one, so a line of cells reads each side once.
     pub fn side_of(&self, node: Node) -> usize
-        requires { node.0 + count_y self.now.lattice * count_z self.now.lattice + count_z self.now.lattice < length self.now.values.now }
+        requires { SideInside self.now node.0 }
         ensures { result ≡ side_at self.now.values.now (count_y self.now.lattice) (count_z self.now.lattice) self.now.iso node.0 }
     {
         let [_, ny, nz] = self.lattice.counts;
@@ -51,8 +52,7 @@ impl Isosurface<'_> {
 
     // Whether the four rows of nodes round the line of cells from a node on are all below or all not. Then its cases are 0 or 255, and it has no face.
     pub fn is_plain(&self, from: Node) -> bool
-        requires { (from.0 + count_y self.now.lattice * count_z self.now.lattice + count_z self.now.lattice + count_z self.now.lattice ≤ length self.now.values.now)
-            × (length self.now.values.now ≤ 16777216) }
+        requires { LineInside self.now from.0 × (length self.now.values.now ≤ 16777216) }
         ensures { result ≡ plain_line self.now.values.now (count_y self.now.lattice) (count_z self.now.lattice) self.now.iso from.0 }
     {
         let [_, ny, nz] = self.lattice.counts;

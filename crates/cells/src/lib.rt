@@ -6,9 +6,8 @@ mod cell;
 mod vertex;
 mod walk;
 
-use grid::Lattice;
-
 pub use cell::{below, cell_edge, edge_offsets};
+use grid::Lattice;
 pub use walk::Visit;
 
 // Where the values at the nodes of a lattice pass the level: what is extracted.

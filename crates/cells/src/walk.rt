@@ -4,8 +4,8 @@ ghost use Rattle.std.specs.Prelude.{◌≡◌, List, [], ◌∷◌, ◌++◌, �
 ghost use Rattle.closed.specs.Faces.{Face, face};
 ghost use Rattle.closed.specs.Rows.{flat_table};
 ghost use Rattle.cells.specs.Extraction.{count_x, count_y, count_z, edge_faces};
-ghost use Rattle.cells.specs.Words.{case_at, row_faces, edge_offsets, EdgesIn};
-ghost use Rattle.cells.specs.Surface.{cell_of, line_of, plane_of, block_of, Sampled};
+ghost use Rattle.cells.specs.Words.{row_faces, edge_offsets, EdgesIn};
+ghost use Rattle.cells.specs.Surface.{cell_of, line_of, plane_of, block_of, case_of, CellInside, LineInside, Sampled};
 
 use crate::Isosurface;
 use crate::cell::{cell_edge, edge_offsets};
@@ -71,9 +71,8 @@ impl<'a> Walk<'a> {
 
     // A cell. Cases 0 and 255 have no face, and cost no row.
     fn visit_cell<V: Visit>(&self, visitor: &mut V, at: Node, case: usize)
-        requires { (at.0 + count_y self.now.surface.lattice * count_z self.now.surface.lattice + count_z self.now.surface.lattice + 1
-                < length self.now.surface.values.now)
-            × (case ≡ case_at self.now.surface.values.now (count_y self.now.surface.lattice) (count_z self.now.surface.lattice) self.now.surface.iso at.0)
+        requires { CellInside self.now.surface at.0
+            × (case ≡ case_of self.now.surface at.0)
             × V.Ready visitor.old (cell_of self.now.surface at.0) }
         ensures { V.Visited visitor.old visitor.new (cell_of self.now.surface at.0) }
     {
@@ -85,9 +84,7 @@ impl<'a> Walk<'a> {
 
     // The cells of a line from a node on, along the last axis, one after the other.
     fn visit_cells<V: Visit>(&self, visitor: &mut V, from: Node)
-        requires { (from.0 + count_y self.now.surface.lattice * count_z self.now.surface.lattice + (count_z self.now.surface.lattice + count_z self.now.surface.lattice)
-                ≤ length self.now.surface.values.now)
-            × V.Ready visitor.old (line_of self.now.surface from.0) }
+        requires { LineInside self.now.surface from.0 × V.Ready visitor.old (line_of self.now.surface from.0) }
         ensures { V.Visited visitor.old visitor.new (line_of self.now.surface from.0) }
     {
         let mut near = self.surface.side_of(from);
@@ -100,9 +97,7 @@ impl<'a> Walk<'a> {
 
     // The same. A plain line has no face, and is passed over.
     fn visit_line<V: Visit>(&self, visitor: &mut V, from: Node)
-        requires { (from.0 + count_y self.now.surface.lattice * count_z self.now.surface.lattice + (count_z self.now.surface.lattice + count_z self.now.surface.lattice)
-                ≤ length self.now.surface.values.now)
-            × V.Ready visitor.old (line_of self.now.surface from.0) }
+        requires { LineInside self.now.surface from.0 × V.Ready visitor.old (line_of self.now.surface from.0) }
         ensures { V.Visited visitor.old visitor.new (line_of self.now.surface from.0) }
     {
         if !self.surface.is_plain(from) {

@@ -6,7 +6,6 @@ use mathlib.Core.List.{List, [], ◌∷◌, ◌++◌, map}
 use Prim.Native.Nat.{ℕ, suc, ◌+◌, ◌*◌, ◌≤◌, ◌<◌}
 use native.Mathlib.Nat.{add-zero}
 use native.Mathlib.Omega.{arith}
-use borrow.Author.Tests.{eq-eqb, ne_eqb}
 use lib.Dec.{eqb}
 use lib.Ieee.{Float}
 use lib.ListN.{length, get_or, set, length-append, length-map}
@@ -46,17 +45,6 @@ module _ (table : List ℕ) (point : ℕ → List Float) where
 
   pub place_more : (s : Places) (e : ℕ) → s.1 ≤ (place1 table point s e).1
   place_more s e = place_cases (λ p. s.1 ≤ p.1) s e (omega arith) (omega arith)
-
-  pub place_old : (s : Places) (e n : ℕ) → n ≡ get_or table e 0 → (n ≡ s.1 + 1 → ⊥) → s ≡ place1 table point s e
-  place_old s e n q z =
-      sym (ap (λ (t : Bool). cond t (sets s.0 (3 * s.1) (point e), s.1 + 1) s) (ne_eqb (get_or table e 0) (s.1 + 1) (λ w. z (q ∙ w))))
-
-  pub place_new : (s : Places) (e n : ℕ) → n ≡ get_or table e 0 → n ≡ s.1 + 1 → (sets s.0 (3 * s.1) (point e), s.1 + 1) ≡ place1 table point s e
-  place_new s e n q z =
-      sym (ap (λ (t : Bool). cond t (sets s.0 (3 * s.1) (point e), s.1 + 1) s) (eq-eqb (get_or table e 0) (s.1 + 1) (sym q ∙ z)))
-
-  pub room_one : (s : Places) (e n m : ℕ) → n ≡ get_or table e 0 → n ≡ s.1 + 1 → 3 * (place1 table point s e).1 ≤ m → 3 * s.1 + 3 ≤ m
-  room_one s e n m q z r = omega (arith, r, ap (λ (p : Places). p.1) (place_new s e n q z))
 
   -- ---- several edges
 

@@ -15,7 +15,7 @@ returns-then-case-eq0 g c =
     let row = cell_faces s.values.now (count_y s.lattice) (count_z s.lattice) s.iso c.args.at.0 (edge c.args.at.0 0) c.args.case (edge_offsets (count_y s.lattice) (count_z s.lattice)) refl refl c.requires.1 in
     none_as g.V.Visit.Visited g.met.V.Visit.visited_none (sym row
     ∙ elim c.then-case-eq0.branch [
-      then-case-eq0-via-then-case-eq0 w ↦ none_below _ _ c.args.case w.if-case-eq0.true
+      | then-case-eq0-via-then-case-eq0 w ↦ none_below _ _ c.args.case w.if-case-eq0.true
       | then-case-eq0-via-else-case-eq0+then-case-eq255 w ↦ all_below _ _ c.args.case w.if-case-eq255.true
     ]) _
 

@@ -51,7 +51,7 @@ pub loop-k-preserved : goal.loop-k-preserved
 loop-k-preserved g c =
     let s = c.args.self.now.surface in (
       cells_more g.V.Visit.Visited (cells_from s c.args.from.0) g.met.V.Visit.visited_append _ c.loop-k.invariant.0
-      (subst (λ n. g.V.Visit.Visited c.loop-k.visitor c.visit_cell.new.visitor (cell_of s n)) c.after-in-loop-k.ensures c.visit_cell.ensures),
+          (subst (λ n. g.V.Visit.Visited c.loop-k.visitor c.visit_cell.new.visitor (cell_of s n)) c.after-in-loop-k.ensures c.visit_cell.ensures),
       c.side_of-far.ensures ∙ ap (side_at s.values.now (count_y s.lattice) (count_z s.lattice) s.iso) c.after.ensures,
       refl,
     )

@@ -21,14 +21,14 @@ visit_line-requires g c =
     let s = c.args.self.now.surface in (
       omega (arith, c.line_start.ensures, line_inside {ny = count_y s.lattice} (count_z s.lattice) c.args.i c.loop-j.j c.requires.0 (omega (arith, c.loop-j-test.true)), c.args.self.now.sampled.nodes),
       subst (λ n. g.V.Visit.Ready c.loop-j.visitor (line_of s n)) (sym c.line_start.ensures)
-      (cells_next g.V.Visit.Visited (lines s c.args.i) g.V.Visit.Ready g.met.V.Visit.ready_next _ _ c.loop-j-test.true c.requires.1 c.loop-j.invariant.0),
+          (cells_next g.V.Visit.Visited (lines s c.args.i) g.V.Visit.Ready g.met.V.Visit.ready_next _ _ c.loop-j-test.true c.requires.1 c.loop-j.invariant.0),
     )
 
 pub loop-j-preserved : goal.loop-j-preserved
 loop-j-preserved g c =
     let s = c.args.self.now.surface in (
       cells_more g.V.Visit.Visited (lines s c.args.i) g.met.V.Visit.visited_append _ c.loop-j.invariant.0
-      (subst (λ n. g.V.Visit.Visited c.loop-j.visitor c.visit_line.new.visitor (line_of s n)) c.line_start.ensures c.visit_line.ensures),
+          (subst (λ n. g.V.Visit.Visited c.loop-j.visitor c.visit_line.new.visitor (line_of s n)) c.line_start.ensures c.visit_line.ensures),
       refl,
     )
 
