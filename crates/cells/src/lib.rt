@@ -7,13 +7,12 @@ mod vertex;
 mod walk;
 
 pub use cell::{below, cell_edge, edge_offsets};
-use grid::Lattice;
 pub use walk::Visit;
 
 // Where the values at the nodes of a lattice pass the level: what is extracted.
 #[derive(Clone, Copy)]
 pub struct Isosurface<'a> {
     pub values: &'a [f32],
-    pub lattice: Lattice,
+    pub lattice: grid::Lattice,
     pub iso: f32,
 }
