@@ -1,6 +1,6 @@
 // The walk over the faces of a surface: planes, lines, cells, and the row of each cell's case, in this order. Both passes of extraction make it, and differ in
 // what they do at a face.
-ghost use Rattle.std.specs.Prelude.{◌≡◌, List, [], ◌∷◌, ◌++◌, ◌+◌, ◌*◌, ◌<◌, ◌≤◌, length};
+ghost use Rattle.std.specs.Prelude.{◌≡◌, List, [], ◌∷◌, ◌++◌, ◌+◌, ◌*◌, ◌<◌, length};
 ghost use Rattle.closed.specs.Faces.{Face, face};
 ghost use Rattle.closed.specs.Rows.{flat_table};
 ghost use Rattle.cells.specs.Extraction.{count_x, count_y, count_z, edge_faces};
