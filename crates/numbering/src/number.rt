@@ -53,7 +53,7 @@ pub fn number_edges(values: &[f32], lattice: Lattice, iso: f32, table: &mut [u32
     requires { Numberable values.now table.old lattice }
     ensures { Counted values.now table.new lattice iso result }
 {
-    lists::clear_u32(table);
+    lists::clear(table);
     let surface = Isosurface {
         values,
         lattice,
