@@ -1,22 +1,13 @@
 -- No second outcome fits: each public function, in the order of the sources. Assumes nothing.
 use mathlib.Core.Path.{◌≡◌, refl}
+use Rattle.std.specs.Prelude.{ℕ, ◌<◌, List, [], Option, Some, None, length}
+use Rattle.std.specs.Borrow.{Bor}
+use Rattle.std.proofs.Common.{◌∙◌, ap, arith}
 use Rattle.lists.specs.OneOutcome.{OneOutcome}
 use Rattle.lists.specs.Laws.OneAnswer.{same, ◌&◌}
-use Rattle.replay.specs.declared.Word.{Word}
-use Rattle.replay.specs.declared.Number.{Number}
+use Rattle.replay.specs.Words.{word_of, TakesWord}
 use Rattle.replay.specs.contracts as contract
 use Rattle.replay.proofs as fn
-
-by_word : {a b : Word} → a.from ≡ b.from → a.to ≡ b.to → a ≡ b
-by_word from to = λ i. record { from = from i; to = to i }
-
-by_number : {a b : Number} → a.value ≡ b.value → a.next ≡ b.next → a ≡ b
-by_number value next = λ i. record { value = value i; next = next i }
-
-pub next_word : OneOutcome contract.next_word.ended fn.next_word.Reads.Post
-next_word κs args o o' p q =
-    let from = same p.0 q.0 in
-    by_word from (cc (from, p.1, q.1)) & refl
 
 pub hex : OneOutcome contract.hex.ended fn.hex.Reads.Post
 hex κs args o o' p q = same p q & refl
@@ -24,8 +15,25 @@ hex κs args o o' p q = same p q & refl
 pub decimal : OneOutcome contract.decimal.ended fn.decimal.Reads.Post
 decimal κs args o o' p q = same p q & refl
 
-pub read_hex : OneOutcome contract.read_hex.ended fn.read_hex.Reads.Post
-read_hex κs args o o' p q = by_number (same p.0 q.0) (same p.1 q.1) & refl
+pub words_new : OneOutcome contract.Words.new.ended fn.Words.new.Reads.Post
+words_new κs args o o' p q = same p q & refl
 
-pub read_decimal : OneOutcome contract.read_decimal.ended fn.read_decimal.Reads.Post
-read_decimal κs args o o' p q = by_number (same p.0 q.0) (same p.1 q.1) & refl
+empty : (text : List ℕ) (w : Bor (List ℕ)) → word_of text ≡ [] → w.now ≡ word_of text → 0 < length w.now → ⊥
+empty text w none is some = let e : length w.now ≡ 0 = ap length (is ∙ none) in omega arith
+
+-- `next` hands out a part of the text: what it says of that part is what stands there
+abbrev pub seen : Option (Bor (List ℕ)) → Option (List ℕ)
+seen None = None
+seen (Some w) = Some w.now
+
+pub words_next : (text rest rest' : List ℕ) (r r' : Option (Bor (List ℕ))) → TakesWord text r rest → TakesWord text r' rest' → (seen r ≡ seen r') × (rest ≡ rest')
+words_next text rest rest' None None p q = (refl, same p.0 q.0)
+words_next text rest rest' None (Some w) p q = absurd (empty text w p.1 q.1.0 q.1.1)
+words_next text rest rest' (Some w) None p q = absurd (empty text w q.1 p.1.0 p.1.1)
+words_next text rest rest' (Some v) (Some w) p q = (ap Some (same p.1.0 q.1.0), same p.0 q.0)
+
+pub words_hex : OneOutcome contract.Words.hex.ended fn.Words.hex.Reads.Post
+words_hex κs args o o' p q = same p.0 q.0 & same p.1 q.1 & refl
+
+pub words_decimal : OneOutcome contract.Words.decimal.ended fn.Words.decimal.Reads.Post
+words_decimal κs args o o' p q = same p.0 q.0 & same p.1 q.1 & refl

@@ -1,14 +1,22 @@
 // Lists of worked values, for the programs that replay them: words between blanks, numbers in hexadecimal and in decimal.
 #![tactic(auto)]
 
-ghost use Rattle.std.specs.Prelude.{◌≡◌, true, false, ◌+◌, ◌≤◌, ◌<◌, length, drop};
-ghost use Rattle.replay.specs.Words.{blank, leading, digit_of, hex_of, decimal_of, end_of, word_of};
+ghost use Rattle.std.specs.Prelude.{◌≡◌, true, false, ◌+◌, ◌-◌, ◌*◌, ◌^◌, ◌≤◌, ◌<◌, List, ℕ, length, drop};
+ghost use Rattle.std.specs.Iterator.{at_most};
+ghost use Rattle.replay.specs.Words.{blank, leading, digit_of, spelled, hex_of, decimal_of, end_of, word_of, TakesWord};
 
-// A word's first place, and the place past its last byte.
-#[derive(Clone, Copy)]
-pub struct Word {
-    pub from: usize,
-    pub to: usize,
+use std::marker::Model;
+
+// The words of a text, of which each call takes the next. A clause sees what is left of the text.
+#[derive(Drop)]
+pub struct Words<'a> {
+    rest: &'a [u8],
+}
+
+impl<'a> Model for Words<'a> {
+    ghost Value = { List ℕ };
+
+    ghost view = { λ words. words.rest.now };
 }
 
 fn is_blank(b: u8) -> bool
@@ -17,111 +25,91 @@ fn is_blank(b: u8) -> bool
     b <= 32
 }
 
-// The first place from `from` on where the bytes are no longer all blank, or all not blank.
-fn past(text: &[u8], from: usize, kind: bool) -> usize
-    requires { from ≤ length text.now }
-    ensures { (result ≡ from + leading kind (drop from text.now)) × (result ≤ length text.now) }
+// How many bytes at the front are all blank, or all not.
+fn leading(text: &[u8], kind: bool) -> usize
+    ensures { result ≡ leading kind text.now }
 {
-    let mut i = from;
-    while i < text.len() {
-        if is_blank(text[i]) != kind {
-            return i;
-        }
-        i += 1;
-    }
-    i
-}
-
-// The next word from a place on. Where there is none it is empty, at the text's end.
-pub fn next_word(text: &[u8], from: usize) -> Word
-    requires { from ≤ length text.now }
-    ensures { (result.from ≡ from + leading true (drop from text.now))
-        × (result.to ≡ result.from + leading false (drop result.from text.now))
-        × (result.to ≤ length text.now) }
-{
-    let start = past(text, from, true);
-    let end = past(text, start, false);
-    Word {
-        from: start,
-        to: end,
-    }
+    text.iter().take_while(|b| is_blank(**b) == kind).count()
 }
 
 fn digit(b: u8) -> u64
     ensures { (result ≡ digit_of b) × (result < 16) }
 {
-    if b < 48 {
-        return 0;
+    match b {
+        48..=57 => (b - 48) as u64,
+        65..=70 => (b - 55) as u64,
+        _ => 0,
     }
-    if b < 58 {
-        return (b - 48) as u64;
+}
+
+// The number that digits of a base spell. Of the number so far only what lies below `most` is carried on.
+fn spelled(word: &[u8], base: u64, most: u64) -> u64
+    requires { (0 < most) × ((most - 1) * base + 16 ≤ 2 ^ 64) }
+    ensures { result ≡ spelled base most 0 word.now }
+{
+    let mut v = 0;
+    for b in word {
+        v = v % most * base + digit(*b);
     }
-    if b < 65 {
-        return 0;
-    }
-    if b < 71 {
-        return (b - 55) as u64;
-    }
-    0
+    v
 }
 
 // The number that a word's hexadecimal digits spell.
-pub fn hex(text: &[u8]) -> u64
-    ensures { result ≡ hex_of text.now }
+pub fn hex(word: &[u8]) -> u64
+    ensures { result ≡ hex_of word.now }
 {
-    let mut v = 0u64;
-    let mut i = 0usize;
-    while i < text.len() {
-        v = v % 0x1000_0000_0000_0000 * 16 + digit(text[i]);
-        i += 1;
-    }
-    v
+    spelled(word, 16, 0x1000_0000_0000_0000)
 }
 
 // The number that a word's decimal digits spell.
-pub fn decimal(text: &[u8]) -> u64
-    ensures { result ≡ decimal_of text.now }
+pub fn decimal(word: &[u8]) -> u64
+    ensures { result ≡ decimal_of word.now }
 {
-    let mut v = 0u64;
-    let mut i = 0usize;
-    while i < text.len() {
-        v = v % 1_000_000_000_000_000_000 * 10 + digit(text[i]);
-        i += 1;
-    }
-    v
+    spelled(word, 10, 1_000_000_000_000_000_000)
 }
 
-// A number, and the place past its word.
-#[derive(Clone, Copy)]
-pub struct Number {
-    pub value: u64,
-    pub next: usize,
-}
-
-pub fn read_hex(text: &[u8], at: usize) -> Number
-    requires { at ≤ length text.now }
-    ensures { (result.value ≡ hex_of (word_of at text.now)) × (result.next ≡ end_of at text.now) × (result.next ≤ length text.now) }
-{
-    let word = next_word(text, at);
-    let from = word.from;
-    let to = word.to;
-    Number {
-        value: hex(&text[from..to]),
-        next: to,
+impl<'a> Words<'a> {
+    pub fn new(text: &'a [u8]) -> Words<'a>
+        ensures { result ≡ text.now }
+    {
+        Words { rest: text }
     }
 }
 
-pub fn read_decimal(text: &[u8], at: usize) -> Number
-    requires { at ≤ length text.now }
-    ensures { (result.value ≡ decimal_of (word_of at text.now))
-        × (result.next ≡ end_of at text.now)
-        × (result.next ≤ length text.now) }
-{
-    let word = next_word(text, at);
-    let from = word.from;
-    let to = word.to;
-    Number {
-        value: decimal(&text[from..to]),
-        next: to,
+impl<'a> Iterator for Words<'a> {
+    type Item = &'a [u8];
+
+    ghost next_gives = { TakesWord };
+
+    ghost remaining = { λ rest. at_most (length rest) };
+
+    fn next(&mut self) -> Option<&'a [u8]> {
+        let (_, text) = self.rest.split_at(leading(self.rest, true));
+        let (word, rest) = text.split_at(leading(text, false));
+        self.rest = rest;
+        if word.is_empty() { None } else { Some(word) }
+    }
+}
+
+// The next word as a number. Where there is no word, that is 0.
+impl Words<'_> {
+    pub fn hex(&mut self) -> u64
+        ensures value { result ≡ hex_of (word_of self.old) }
+        ensures left { self.new ≡ drop (end_of self.old) self.old }
+    {
+        match self.next() {
+            Some(word) => hex(word),
+            None => 0,
+        }
+    }
+
+    pub fn decimal(&mut self) -> u64
+        ensures value { result ≡ decimal_of (word_of self.old) }
+        ensures left { self.new ≡ drop (end_of self.old) self.old }
+    {
+        match self.next() {
+            Some(word) => decimal(word),
+            None => 0,
+        }
     }
 }
