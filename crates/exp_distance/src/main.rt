@@ -2,29 +2,14 @@
 // `stdin` has Rust's values, one pattern a line, as native/src/bin/exp_distance.rs writes them; that program also runs 13 million values.
 #![tactic(auto)]
 
-ghost use Rattle.std.specs.Prelude.{◌<◌, ◌≤◌};
-
+use replay::Words;
 use std::io;
 
-// Of two patterns of numbers that are not below zero: how many values lie from one to the other.
-fn steps_between(a: u32, b: u32) -> u32 {
-    if a < b { b - a } else { a - b }
-}
+const VALUES: u32 = 4001;
 
-fn larger(a: u32, b: u32) -> u32 {
-    if a < b { b } else { a }
-}
-
-fn one_if_not_zero(n: u32) -> u32
-    ensures { result ≤ 1 }
-{
-    if n == 0 { 0 } else { 1 }
-}
-
-fn distance(k: u32, word: &[u8]) -> u32 {
-    let rust = (replay::hex(word) % 0x1_0000_0000) as u32;
-    let ours = arith::pattern32(arith::exp_neg((k as f64) / 320.0));
-    steps_between(ours, rust)
+// How many values lie from ours to Rust's: the patterns of numbers that are not below zero stand in their order.
+fn distance(k: u32, rust: u32) -> u32 {
+    arith::pattern32(arith::exp_neg(k as f64 / 320.0)).abs_diff(rust)
 }
 
 fn report(rt: &impl Print, values: u32, differ: u32, worst: u32) -> io::Result<()> {
@@ -32,21 +17,15 @@ fn report(rt: &impl Print, values: u32, differ: u32, worst: u32) -> io::Result<(
 }
 
 fn compare(rt: &impl Print, text: &[u8]) -> io::Result<()> {
-    let mut at = 0usize;
-    let mut k = 0u32;
+    let mut words = Words::new(text);
     let mut differ = 0u32;
     let mut worst = 0u32;
-    while k < 4001 {
-        let word = replay::next_word(text, at);
-        let from = word.from;
-        let to = word.to;
-        let d = distance(k, &text[from..to]);
-        differ += one_if_not_zero(d);
-        worst = larger(worst, d);
-        at = to;
-        k += 1;
+    for k in 0..VALUES {
+        let d = distance(k, words.hex32());
+        differ += u32::from(d != 0);
+        worst = worst.max(d);
     }
-    report(rt, k, differ, worst)
+    report(rt, VALUES, differ, worst)
 }
 
 fn main(rt: HostRuntime) -> io::Result<()> {

@@ -35,5 +35,8 @@ words_next text rest rest' (Some v) (Some w) p q = (ap Some (same p.1.0 q.1.0), 
 pub words_hex : OneOutcome contract.Words.hex.ended fn.Words.hex.Reads.Post
 words_hex κs args o o' p q = same p.0 q.0 & same p.1 q.1 & refl
 
+pub words_hex32 : OneOutcome contract.Words.hex32.ended fn.Words.hex32.Reads.Post
+words_hex32 κs args o o' p q = same p.0 q.0 & same p.1 q.1 & refl
+
 pub words_decimal : OneOutcome contract.Words.decimal.ended fn.Words.decimal.Reads.Post
 words_decimal κs args o o' p q = same p.0 q.0 & same p.1 q.1 & refl

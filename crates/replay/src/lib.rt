@@ -1,7 +1,7 @@
 // Lists of worked values, for the programs that replay them: words between blanks, numbers in hexadecimal and in decimal.
 #![tactic(auto)]
 
-ghost use Rattle.std.specs.Prelude.{◌≡◌, true, false, ◌+◌, ◌-◌, ◌*◌, ◌^◌, ◌≤◌, ◌<◌, List, ℕ, length, drop};
+ghost use Rattle.std.specs.Prelude.{◌≡◌, true, false, ◌+◌, ◌-◌, ◌*◌, ◌%◌, ◌^◌, ◌≤◌, ◌<◌, List, ℕ, length, drop};
 ghost use Rattle.std.specs.Iterator.{at_most};
 ghost use Rattle.replay.specs.Words.{blank, leading, digit_of, spelled, hex_of, decimal_of, end_of, word_of, TakesWord};
 
@@ -101,6 +101,14 @@ impl Words<'_> {
             Some(word) => hex(word),
             None => 0,
         }
+    }
+
+    // The low 32 bits of a hexadecimal number.
+    pub fn hex32(&mut self) -> u32
+        ensures value { result ≡ hex_of (word_of self.old) % 2 ^ 32 }
+        ensures left { self.new ≡ drop (end_of self.old) self.old }
+    {
+        (self.hex() % 0x1_0000_0000) as u32
     }
 
     pub fn decimal(&mut self) -> u64
