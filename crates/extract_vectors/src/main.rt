@@ -6,7 +6,7 @@
 
 mod words;
 
-ghost use Rattle.std.specs.Prelude.{◌≡◌, ◌*◌, ◌<◌, ◌≤◌, length, IfOk, OnErr};
+ghost use Rattle.std.specs.Prelude.{◌≡◌, ◌*◌, ◌<◌, ◌≤◌, length, IfSome};
 ghost use Rattle.grid.specs.Grid.{Counts};
 ghost use Rattle.cells.specs.Extraction.{count_x, count_y, count_z};
 ghost use Rattle.numbering.specs.Words.{Numberable, Counted};
@@ -14,149 +14,102 @@ ghost use Rattle.extract.specs.Words.{Writable};
 
 use grid::Lattice;
 use meshes::MeshSize;
-use replay::{read_decimal, read_hex};
+use replay::Words;
 use std::io;
-use words::{read_header, read_values, skip_word};
+use words::{Header, read_header, read_values, skip_word};
 
 // ---- what differs
 
-// Where the next word is, and how many numbers, or grids, differed.
-#[derive(Clone, Copy)]
-struct Compared {
-    next: usize,
-    differ: u64,
-}
-
-fn one_if_any(a: u64, b: u64) -> u64
-    ensures { result ≤ 1 }
-{
-    if a == 0 && b == 0 { 0 } else { 1 }
-}
-
-fn tell(rt: &impl Print, grid: u64, name: &[u8], i: usize, want: u64, got: u64) -> io::Result<()> {
-    print!(rt; "grid {grid}")?;
-    rt.write_all(name)?;
-    println!(rt; "{i} should be {want:08x}, is {got:08x}")
-}
-
-// One number: 1 where it differs, else 0.
+// Whether a number differs from the list's.
 fn differs(
     rt: &impl Print,
     grid: u64,
-    name: &[u8],
+    name: &str,
     i: usize,
     want: u64,
     got: u64,
-) -> io::Result<u64>
-    ensures { IfOk result (λ differ. differ ≤ 1) }
-{
-    if got == want {
-        return Ok(0);
+) -> io::Result<bool> {
+    if got != want {
+        println!(rt; "grid {grid}: {name} {i} should be {want:08x}, is {got:08x}")?;
     }
-    tell(rt, grid, name, i, want, got)?;
-    Ok(1)
+    Ok(got != want)
 }
 
 // A grid that the program's slices do not hold counts as one that differs.
-fn no_room(rt: &impl Print, grid: u64, next: usize) -> io::Result<Compared>
-    ensures { IfOk result (λ seen. (seen.next ≡ next) × (seen.differ ≤ 1)) }
-{
+fn no_room(rt: &impl Print, grid: u64) -> io::Result<bool> {
     println!(rt; "no room for grid {grid}")?;
-    Ok(Compared { next, differ: 1 })
+    Ok(true)
 }
 
 // ---- the mesh
 
 fn compare_vertices(
     rt: &impl Print,
-    text: &[u8],
-    at: usize,
+    words: &mut Words<'_>,
     vertices: &[f32],
     grid: u64,
-) -> io::Result<Compared>
-    requires { at ≤ length text.now }
-    ensures { IfOk result (λ seen. (at ≤ seen.next) × (seen.next ≤ length text.now)) }
+) -> io::Result<bool>
+    ensures { length words.new ≤ length words.old }
 {
-    let mut next = at;
-    let mut differ = 0u64;
-    let mut i = 0usize;
-    while i < vertices.len() {
-        let want = read_hex(text, next);
-        let got = arith::pattern32(vertices[i]) as u64;
-        differ += differs(rt, grid, b": coordinate ", i, want.value, got)?;
-        next = want.next;
-        i += 1;
+    let mut differ = false;
+    for (i, x) in vertices.iter().enumerate() {
+        let got = arith::pattern32(*x) as u64;
+        differ |= differs(rt, grid, "coordinate", i, words.hex(), got)?;
     }
-    Ok(Compared { next, differ })
+    Ok(differ)
 }
 
 fn compare_faces(
     rt: &impl Print,
-    text: &[u8],
-    at: usize,
+    words: &mut Words<'_>,
     faces: &[u32],
     grid: u64,
-) -> io::Result<Compared>
-    requires { at ≤ length text.now }
-    ensures { IfOk result (λ seen. (at ≤ seen.next) × (seen.next ≤ length text.now)) }
+) -> io::Result<bool>
+    ensures { length words.new ≤ length words.old }
 {
-    let mut next = at;
-    let mut differ = 0u64;
-    let mut i = 0usize;
-    while i < faces.len() {
-        let want = read_decimal(text, next);
-        let got = faces[i] as u64;
-        differ += differs(rt, grid, b": face corner ", i, want.value, got)?;
-        next = want.next;
-        i += 1;
+    let mut differ = false;
+    for (i, corner) in faces.iter().enumerate() {
+        let got = *corner as u64;
+        differ |= differs(rt, grid, "face corner", i, words.decimal(), got)?;
     }
-    Ok(Compared { next, differ })
+    Ok(differ)
 }
 
 // The second pass, and its mesh beside the list's.
 fn compare_mesh(
     rt: &impl Print,
-    text: &[u8],
-    at: usize,
-    lattice: Lattice,
-    iso: f32,
+    words: &mut Words<'_>,
+    header: Header,
     values: &[f32],
     table: &[u32],
     vertices: &mut [f32],
     faces: &mut [u32],
     grid: u64,
-) -> io::Result<Compared>
-    requires { (at ≤ length text.now) × Writable values.now table.now lattice iso vertices.old faces.old }
-    ensures seen { IfOk result (λ seen. (at ≤ seen.next) × (seen.next ≤ length text.now) × (seen.differ ≤ 1)) }
-    ensures failed { OnErr result ((length vertices.new ≡ length vertices.old) × (length faces.new ≡ length faces.old)) }
+) -> io::Result<bool>
+    requires { Writable values.now table.now header.lattice header.iso vertices.old faces.old }
+    ensures { length words.new ≤ length words.old }
 {
-    extract::write_mesh(values, lattice, iso, table, vertices, faces);
-    let points = compare_vertices(rt, text, at, vertices, grid)?;
-    let corners = compare_faces(rt, text, points.next, faces, grid)?;
-    Ok(Compared {
-        next: corners.next,
-        differ: one_if_any(points.differ, corners.differ),
-    })
+    extract::write_mesh(values, header.lattice, header.iso, table, vertices, faces);
+    let in_vertices = compare_vertices(rt, words, vertices, grid)?;
+    let in_faces = compare_faces(rt, words, faces, grid)?;
+    Ok(in_vertices || in_faces)
 }
 
 // Parts of exactly 3V and 3F elements for the vertices and the faces.
 fn replay_writing(
     rt: &impl Print,
-    text: &[u8],
-    at: usize,
-    lattice: Lattice,
-    iso: f32,
+    words: &mut Words<'_>,
+    header: Header,
     values: &[f32],
     table: &[u32],
     totals: MeshSize,
     grid: u64,
-) -> io::Result<Compared>
-    requires { (at ≤ length text.now)
-        × Numberable values.now table.now lattice
-        × Counted values.now table.now lattice iso totals
+) -> io::Result<bool>
+    requires { Numberable values.now table.now header.lattice
+        × Counted values.now table.now header.lattice header.iso totals
         × (totals.vertices ≤ 256)
         × (totals.faces ≤ 256) }
-    ensures { IfOk result (λ seen. (at ≤ seen.next) × (seen.next ≤ length text.now) × (seen.differ ≤ 1)) }
+    ensures { length words.new ≤ length words.old }
 {
     let v = 3 * totals.vertices;
     let f = 3 * totals.faces;
@@ -164,10 +117,8 @@ fn replay_writing(
     let mut faces = [7u32; 768];
     compare_mesh(
         rt,
-        text,
-        at,
-        lattice,
-        iso,
+        words,
+        header,
         values,
         table,
         &mut vertices[..v],
@@ -179,197 +130,108 @@ fn replay_writing(
 // Whether V or F differs from the list's.
 fn miscounted(
     rt: &impl Print,
-    text: &[u8],
-    at: usize,
+    words: &mut Words<'_>,
     totals: MeshSize,
     grid: u64,
-) -> io::Result<Compared>
-    requires { at ≤ length text.now }
-    ensures { IfOk result (λ seen. (at ≤ seen.next) × (seen.next ≤ length text.now) × (seen.differ ≤ 1)) }
+) -> io::Result<bool>
+    ensures { length words.new ≤ length words.old }
 {
-    let vertices = read_decimal(text, skip_word(text, at));
-    let faces = read_decimal(text, vertices.next);
-    let v = totals.vertices as u64;
-    let f = totals.faces as u64;
-    let in_vertices = differs(rt, grid, b": V ", 0, vertices.value, v)?;
-    let in_faces = differs(rt, grid, b": F ", 0, faces.value, f)?;
-    Ok(Compared {
-        next: faces.next,
-        differ: one_if_any(in_vertices, in_faces),
-    })
+    skip_word(words);
+    let vertices = words.decimal();
+    let faces = words.decimal();
+    let in_vertices = differs(rt, grid, "V", 0, vertices, totals.vertices as u64)?;
+    let in_faces = differs(rt, grid, "F", 0, faces, totals.faces as u64)?;
+    Ok(in_vertices || in_faces)
 }
 
 // The first pass, over the values that the list gives.
 fn replay_numbering(
     rt: &impl Print,
-    text: &[u8],
-    at: usize,
-    lattice: Lattice,
-    iso: f32,
+    words: &mut Words<'_>,
+    header: Header,
     values: &mut [f32],
     table: &mut [u32],
     grid: u64,
-) -> io::Result<Compared>
-    requires { (at ≤ length text.now) × Numberable values.old table.old lattice }
-    ensures seen { IfOk result (λ seen. (at ≤ seen.next) × (seen.next ≤ length text.now) × (seen.differ ≤ 1)) }
-    ensures failed { OnErr result ((length values.new ≡ length values.old) × (length table.new ≡ length table.old)) }
+) -> io::Result<bool>
+    requires { Numberable values.old table.old header.lattice }
+    ensures { length words.new ≤ length words.old }
 {
-    let mesh = read_values(text, at, values);
-    let totals = extract::number_edges(values, lattice, iso, table);
-    let counts = miscounted(rt, text, mesh, totals, grid)?;
-    if 0 < counts.differ {
-        return Ok(counts);
+    read_values(words, values);
+    let totals = extract::number_edges(values, header.lattice, header.iso, table);
+    if miscounted(rt, words, totals, grid)? {
+        return Ok(true);
     }
-    if 256 < totals.vertices {
-        return no_room(rt, grid, counts.next);
+    if 256 < totals.vertices || 256 < totals.faces {
+        return no_room(rt, grid);
     }
-    if 256 < totals.faces {
-        return no_room(rt, grid, counts.next);
-    }
-    replay_writing(
-        rt,
-        text,
-        counts.next,
-        lattice,
-        iso,
-        values,
-        table,
-        totals,
-        grid,
-    )
+    replay_writing(rt, words, header, values, table, totals, grid)
 }
 
 // ---- the grid
 
-// How many nodes there are, or 0 where extraction does not take them or the program's slices do not hold them.
-fn nodes_here(lattice: Lattice) -> usize
-    ensures { 0 < result → Counts lattice.counts × (result ≡ count_x lattice * count_y lattice * count_z lattice) × (result ≤ 128) }
+// How many nodes there are, where extraction takes them and the program's slices hold them.
+fn nodes_here(lattice: Lattice) -> Option<usize>
+    ensures { IfSome result (λ nodes. Counts lattice.counts × (nodes ≡ count_x lattice * count_y lattice * count_z lattice) × (nodes ≤ 128)) }
 {
-    let nx = lattice.counts[0];
-    let ny = lattice.counts[1];
-    let nz = lattice.counts[2];
-    if nx < 2 {
-        return 0;
+    let [nx, ny, nz] = lattice.counts;
+    if nx < 2 || ny < 2 || nz < 2 {
+        return None;
     }
-    if ny < 2 {
-        return 0;
-    }
-    if nz < 2 {
-        return 0;
-    }
-    if 128 < nx {
-        return 0;
-    }
-    if 128 < ny {
-        return 0;
-    }
-    if 128 < nz {
-        return 0;
+    if 128 < nx || 128 < ny || 128 < nz {
+        return None;
     }
     let nodes = nx * ny * nz;
-    if 128 < nodes {
-        return 0;
-    }
-    nodes
+    if 128 < nodes { None } else { Some(nodes) }
 }
 
 // Parts of exactly N and 3N elements for the values and the edge table.
 fn replay_parts(
     rt: &impl Print,
-    text: &[u8],
-    at: usize,
-    lattice: Lattice,
-    iso: f32,
+    words: &mut Words<'_>,
+    header: Header,
     nodes: usize,
     grid: u64,
-) -> io::Result<Compared>
-    requires { (at ≤ length text.now) × Counts lattice.counts × (nodes ≡ count_x lattice * count_y lattice * count_z lattice) × (nodes ≤ 128) }
-    ensures { IfOk result (λ seen. (at ≤ seen.next) × (seen.next ≤ length text.now) × (seen.differ ≤ 1)) }
+) -> io::Result<bool>
+    requires { Counts header.lattice.counts
+        × (nodes ≡ count_x header.lattice * count_y header.lattice * count_z header.lattice)
+        × (nodes ≤ 128) }
+    ensures { length words.new ≤ length words.old }
 {
     let edges = 3 * nodes;
     let mut values = [0.5f32; 128];
     let mut table = [7u32; 384];
     replay_numbering(
         rt,
-        text,
-        at,
-        lattice,
-        iso,
+        words,
+        header,
         &mut values[..nodes],
         &mut table[..edges],
         grid,
     )
 }
 
-fn replay_grid(rt: &impl Print, text: &[u8], at: usize, grid: u64) -> io::Result<Compared>
-    requires { at ≤ length text.now }
-    ensures { IfOk result (λ seen. (at ≤ seen.next) × (seen.next ≤ length text.now) × (seen.differ ≤ 1)) }
+fn replay_grid(rt: &impl Print, words: &mut Words<'_>, grid: u64) -> io::Result<bool>
+    ensures { length words.new ≤ length words.old }
 {
-    let header = read_header(text, at);
-    let nodes = nodes_here(header.lattice);
-    if nodes == 0 {
-        return no_room(rt, grid, header.next);
+    let header = read_header(words);
+    match nodes_here(header.lattice) {
+        Some(nodes) => replay_parts(rt, words, header, nodes, grid),
+        None => no_room(rt, grid),
     }
-    replay_parts(
-        rt,
-        text,
-        header.next,
-        header.lattice,
-        header.iso,
-        nodes,
-        grid,
-    )
 }
 
 // ---- the list
 
-// What is known after a word: where the next one is, whether it began a grid, and whether that differed.
-#[derive(Clone, Copy)]
-struct Step {
-    next: usize,
-    grids: u64,
-    differ: u64,
-}
-
 // A grid begins at the word `grid`; other words, which a mesh that differs leaves over, are passed by.
-fn replay_word(rt: &impl Print, text: &[u8], at: usize, grid: u64) -> io::Result<Step>
-    requires { at < length text.now }
-    ensures { IfOk result (λ step. (at < step.next) × (step.next ≤ length text.now) × (step.grids ≤ 1) × (step.differ ≤ 1)) }
-{
-    let word = replay::next_word(text, at);
-    let from = word.from;
-    let to = word.to;
-    if to <= from {
-        return Ok(Step {
-            next: text.len(),
-            grids: 0,
-            differ: 0,
-        });
-    }
-    if !check::same(&text[from..to], b"grid") {
-        return Ok(Step {
-            next: to,
-            grids: 0,
-            differ: 0,
-        });
-    }
-    let compared = replay_grid(rt, text, to, grid)?;
-    Ok(Step {
-        next: compared.next,
-        grids: 1,
-        differ: compared.differ,
-    })
-}
-
 fn replay_all(rt: &impl Print, text: &[u8]) -> io::Result<()> {
-    let mut at = 0usize;
+    let mut words = Words::new(text);
     let mut grids = 0u64;
     let mut differ = 0u64;
-    while at < text.len() {
-        let step = replay_word(rt, text, at, grids)?;
-        at = step.next;
-        grids += step.grids;
-        differ += step.differ;
+    while let Some(word) = words.next() {
+        if word == b"grid".as_slice() {
+            differ += u64::from(replay_grid(rt, &mut words, grids)?);
+            grids += 1;
+        }
     }
     println!(rt; "{grids} grids, {differ} differ")
 }
