@@ -7,16 +7,13 @@
 mod tell;
 mod words;
 
-ghost use Rattle.std.specs.Prelude.{◌≡◌, ◌<◌, ◌≤◌, length, IfOk, OnErr};
+ghost use Rattle.std.specs.Prelude.{◌≤◌, length};
 
 use answers::Answer;
-use replay::read_decimal;
+use replay::Words;
 use settings::Settings;
 use std::io;
-use tell::{
-    digest_f32, digest_u32, left_f32, left_u32, tell_answer, tell_count, tell_digest,
-    tell_field_answer, tell_values,
-};
+use tell::{digest, left, tell_answer, tell_count, tell_digest, tell_field_answer, tell_values};
 use words::{read_floats, read_lengths, read_settings};
 
 // ---- the mesh of a call
@@ -27,6 +24,21 @@ fn triples(count: usize) -> usize {
         return 0;
     }
     3 * count
+}
+
+// What is not zero in the scratch, slice by slice: the end of a line.
+fn tell_scratch(
+    rt: &impl Print,
+    grids: [&[f32]; 7],
+    edges: &[u32],
+    distances: &[f32],
+) -> io::Result<()> {
+    for grid in grids {
+        tell_count(rt, left(grid, 0))?;
+    }
+    tell_count(rt, left(edges, 0))?;
+    tell_count(rt, left(distances, 0))?;
+    println!(rt;)
 }
 
 // The answer, the mesh as two digests, and what is not zero past V and F and in all scratch.
@@ -48,21 +60,12 @@ fn report(
     let v = triples(answer.vertices);
     let f = triples(answer.faces);
     tell_answer(rt, answer)?;
-    tell_digest(rt, b"hash-vertices ", digest_f32(vertices, v))?;
-    tell_digest(rt, b"hash-faces ", digest_u32(faces, f))?;
-    rt.write_all(b"left")?;
-    tell_count(rt, left_f32(vertices, v))?;
-    tell_count(rt, left_u32(faces, f))?;
-    tell_count(rt, left_f32(s0, 0))?;
-    tell_count(rt, left_f32(s1, 0))?;
-    tell_count(rt, left_f32(s2, 0))?;
-    tell_count(rt, left_f32(s3, 0))?;
-    tell_count(rt, left_f32(s4, 0))?;
-    tell_count(rt, left_f32(s5, 0))?;
-    tell_count(rt, left_f32(s6, 0))?;
-    tell_count(rt, left_u32(edges, 0))?;
-    tell_count(rt, left_f32(distances, 0))?;
-    rt.write_all(b"\n")
+    tell_digest(rt, "hash-vertices", digest(vertices, v))?;
+    tell_digest(rt, "hash-faces", digest(faces, f))?;
+    print!(rt; "left")?;
+    tell_count(rt, left(vertices, v))?;
+    tell_count(rt, left(faces, f))?;
+    tell_scratch(rt, [s0, s1, s2, s3, s4, s5, s6], edges, distances)
 }
 
 // A call in slices of the recorded lengths.
@@ -90,14 +93,7 @@ fn ask(
     )
 }
 
-// The smaller: the list asks for no more room than there is.
-fn at_most(n: usize, room: usize) -> usize
-    ensures { result ≤ room }
-{
-    if room < n { room } else { n }
-}
-
-// Cuts the seven grids to their recorded lengths.
+// Cuts the seven grids to their recorded lengths: the list asks for no more room than there is.
 fn cut_grids(
     rt: &impl Print,
     points: &[f32],
@@ -115,13 +111,13 @@ fn cut_grids(
     edges: &mut [u32],
     distances: &mut [f32],
 ) -> io::Result<()> {
-    let n0 = at_most(lengths[0], s0.len());
-    let n1 = at_most(lengths[1], s1.len());
-    let n2 = at_most(lengths[2], s2.len());
-    let n3 = at_most(lengths[3], s3.len());
-    let n4 = at_most(lengths[4], s4.len());
-    let n5 = at_most(lengths[5], s5.len());
-    let n6 = at_most(lengths[6], s6.len());
+    let n0 = lengths[0].min(s0.len());
+    let n1 = lengths[1].min(s1.len());
+    let n2 = lengths[2].min(s2.len());
+    let n3 = lengths[3].min(s3.len());
+    let n4 = lengths[4].min(s4.len());
+    let n5 = lengths[5].min(s5.len());
+    let n6 = lengths[6].min(s6.len());
     ask(
         rt,
         points,
@@ -158,10 +154,10 @@ fn cut(
     edges: &mut [u32],
     distances: &mut [f32],
 ) -> io::Result<()> {
-    let e = at_most(lengths[7], edges.len());
-    let d = at_most(lengths[8], distances.len());
-    let v = at_most(lengths[9], vertices.len());
-    let f = at_most(lengths[10], faces.len());
+    let e = lengths[7].min(edges.len());
+    let d = lengths[8].min(distances.len());
+    let v = lengths[9].min(vertices.len());
+    let f = lengths[10].min(faces.len());
     cut_grids(
         rt,
         points,
@@ -249,19 +245,10 @@ fn report_field(
     distances: &[f32],
 ) -> io::Result<()> {
     tell_field_answer(rt, answer)?;
-    tell_digest(rt, b"hash-field ", digest_f32(field, n))?;
-    rt.write_all(b"field-left")?;
-    tell_count(rt, left_f32(field, n))?;
-    tell_count(rt, left_f32(s0, 0))?;
-    tell_count(rt, left_f32(s1, 0))?;
-    tell_count(rt, left_f32(s2, 0))?;
-    tell_count(rt, left_f32(s3, 0))?;
-    tell_count(rt, left_f32(s4, 0))?;
-    tell_count(rt, left_f32(s5, 0))?;
-    tell_count(rt, left_f32(s6, 0))?;
-    tell_count(rt, left_u32(edges, 0))?;
-    tell_count(rt, left_f32(distances, 0))?;
-    rt.write_all(b"\n")?;
+    tell_digest(rt, "hash-field", digest(field, n))?;
+    print!(rt; "field-left")?;
+    tell_count(rt, left(field, n))?;
+    tell_scratch(rt, [s0, s1, s2, s3, s4, s5, s6], edges, distances)?;
     tell_values(rt, field, shown)
 }
 
@@ -323,82 +310,28 @@ fn lend_field(rt: &impl Print, points: &[f32], settings: Settings, shown: usize)
 
 // ---- the list
 
-// The mesh, then the field.
-fn both(
-    rt: &impl Print,
-    points: &[f32],
-    settings: Settings,
-    shown: usize,
-    lengths: [usize; 11],
-) -> io::Result<()> {
-    lend(rt, points, settings, lengths)?;
-    lend_field(rt, points, settings, shown)
-}
-
-// How many numbers the points have, then the numbers.
-fn take_points(
-    rt: &impl Print,
-    text: &[u8],
-    at: usize,
-    settings: Settings,
-    shown: usize,
-    lengths: [usize; 11],
-    points: &mut [f32],
-) -> io::Result<usize>
-    requires { at ≤ length text.now }
-    ensures next { IfOk result (λ next. (at ≤ next) × (next ≤ length text.now)) }
-    ensures failed { OnErr result (length points.new ≡ length points.old) }
+// Up to 512 points of six numbers. The mesh, then the field.
+fn replay_call(rt: &impl Print, words: &mut Words<'_>) -> io::Result<()>
+    ensures { length words.new ≤ length words.old }
 {
-    let count = read_decimal(text, at);
-    let n = at_most(count.value as usize, points.len());
-    let next = read_floats(text, count.next, &mut points[..n]);
-    both(rt, &points[..n], settings, shown, lengths)?;
-    Ok(next)
-}
-
-// Up to 512 points of six numbers.
-fn replay_call(rt: &impl Print, text: &[u8], at: usize) -> io::Result<usize>
-    requires { at ≤ length text.now }
-    ensures { IfOk result (λ next. (at ≤ next) × (next ≤ length text.now)) }
-{
-    let told = read_settings(text, at);
-    let shown = read_decimal(text, told.next);
-    let lent = read_lengths(text, shown.next);
-    let settings = told.settings;
-    let lengths = lent.lengths;
+    let settings = read_settings(words);
+    let shown = words.decimal() as usize;
+    let lengths = read_lengths(words);
     let mut points = [0.5f32; 3072];
-    take_points(
-        rt,
-        text,
-        lent.next,
-        settings,
-        shown.value as usize,
-        lengths,
-        &mut points,
-    )
+    let n = points.len().min(words.decimal() as usize);
+    read_floats(words, &mut points[..n]);
+    lend(rt, &points[..n], settings, lengths)?;
+    lend_field(rt, &points[..n], settings, shown)
 }
 
 // A call's first word is its name; where there is no word, the list is at its end.
-fn replay_next(rt: &impl Print, text: &[u8], at: usize) -> io::Result<usize>
-    requires { at < length text.now }
-    ensures { IfOk result (λ next. (at < next) × (next ≤ length text.now)) }
-{
-    let word = replay::next_word(text, at);
-    let from = word.from;
-    let to = word.to;
-    if to <= from {
-        return Ok(text.len());
-    }
-    rt.write_all(b"call ")?;
-    rt.write_all(&text[from..to])?;
-    rt.write_all(b"\n")?;
-    replay_call(rt, text, to)
-}
-
 fn replay_all(rt: &impl Print, text: &[u8]) -> io::Result<()> {
-    let mut at = 0usize;
-    while at < text.len() {
-        at = replay_next(rt, text, at)?;
+    let mut words = Words::new(text);
+    while let Some(name) = words.next() {
+        rt.write_all(b"call ")?;
+        rt.write_all(name)?;
+        rt.write_all(b"\n")?;
+        replay_call(rt, &mut words)?;
     }
     Ok(())
 }

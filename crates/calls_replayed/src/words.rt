@@ -1,12 +1,8 @@
-// The words of a call in the list, one after the other: what they say, and where the next one is.
+// The words of a call in the list, one after the other: what they say.
 ghost use Rattle.std.specs.Prelude.{◌≤◌, length};
 
-use replay::{read_decimal, read_hex};
+use replay::Words;
 use settings::{Settings, Trimming};
-
-fn single(pattern: u64) -> f32 {
-    arith::float32((pattern % 0x1_0000_0000) as u32)
-}
 
 fn trimming(flag: u64, distance: f32) -> Trimming {
     if flag == 0 {
@@ -15,70 +11,43 @@ fn trimming(flag: u64, distance: f32) -> Trimming {
     Trimming::Within(distance)
 }
 
-#[derive(Clone, Copy)]
-pub struct Told {
-    pub settings: Settings,
-    pub next: usize,
-}
-
 // Depth and trimming's flag in decimal; smoothing, offset, distance, iterations and tolerance as patterns.
-pub fn read_settings(text: &[u8], at: usize) -> Told
-    requires { at ≤ length text.now }
-    ensures { (at ≤ result.next) × (result.next ≤ length text.now) }
+pub fn read_settings(words: &mut Words<'_>) -> Settings
+    ensures { length words.new ≤ length words.old }
 {
-    let depth = read_decimal(text, at);
-    let smoothing = read_hex(text, depth.next);
-    let offset = read_hex(text, smoothing.next);
-    let flag = read_decimal(text, offset.next);
-    let distance = read_hex(text, flag.next);
-    let iterations = read_hex(text, distance.next);
-    let tolerance = read_hex(text, iterations.next);
-    Told {
-        settings: Settings {
-            depth: (depth.value % 0x1_0000_0000) as u32,
-            smoothing: single(smoothing.value),
-            iso_offset: single(offset.value),
-            trimming: trimming(flag.value, single(distance.value)),
-            max_iterations: iterations.value as usize,
-            tolerance: arith::float64(tolerance.value),
-        },
-        next: tolerance.next,
+    let depth = words.decimal();
+    let smoothing = words.hex32();
+    let offset = words.hex32();
+    let flag = words.decimal();
+    let distance = words.hex32();
+    let iterations = words.hex();
+    let tolerance = words.hex();
+    Settings {
+        depth: (depth % 0x1_0000_0000) as u32,
+        smoothing: arith::float32(smoothing),
+        iso_offset: arith::float32(offset),
+        trimming: trimming(flag, arith::float32(distance)),
+        max_iterations: iterations as usize,
+        tolerance: arith::float64(tolerance),
     }
-}
-
-#[derive(Clone, Copy)]
-pub struct Lent {
-    pub lengths: [usize; 11],
-    pub next: usize,
 }
 
 // The seven grids, the edge table, the distances, the vertices and the faces.
-pub fn read_lengths(text: &[u8], at: usize) -> Lent
-    requires { at ≤ length text.now }
-    ensures { (at ≤ result.next) × (result.next ≤ length text.now) }
+pub fn read_lengths(words: &mut Words<'_>) -> [usize; 11]
+    ensures { length words.new ≤ length words.old }
 {
     let mut lengths = [0usize; 11];
-    let mut next = at;
-    for i in 0..11 {
-        let count = read_decimal(text, next);
-        lengths[i] = count.value as usize;
-        next = count.next;
+    for length in lengths.iter_mut() {
+        *length = words.decimal() as usize;
     }
-    Lent { lengths, next }
+    lengths
 }
 
 // As many patterns as `floats` has elements.
-pub fn read_floats(text: &[u8], at: usize, floats: &mut [f32]) -> usize
-    requires { at ≤ length text.now }
-    ensures { (at ≤ result) × (result ≤ length text.now) }
+pub fn read_floats(words: &mut Words<'_>, floats: &mut [f32])
+    ensures { length words.new ≤ length words.old }
 {
-    let mut next = at;
-    let mut i = 0usize;
-    while i < floats.len() {
-        let value = read_hex(text, next);
-        floats[i] = single(value.value);
-        next = value.next;
-        i += 1;
+    for float in floats.iter_mut() {
+        *float = arith::float32(words.hex32());
     }
-    next
 }

@@ -1,9 +1,6 @@
--- `calls_replayed::replay_all` ends: each call moves on. Assumes nothing.
-use Rattle.std.proofs.Common.{◌-◌, ◌≤◌, length}
+-- `calls_replayed::replay_all` ends: each call takes words off the text. Assumes nothing.
+use Rattle.std.proofs.Common.{length}
 use Rattle.calls_replayed.proofs.replay_all.Given as goal
 
-abbrev pub invariant-loop-at : goal.invariant-loop-at
-invariant-loop-at g l = l.at ≤ length l.text
-
-abbrev pub decreases-loop-at : goal.decreases-loop-at
-decreases-loop-at g l = length l.text - l.at
+abbrev pub decreases-loop-name : goal.decreases-loop-name
+decreases-loop-name g l = length l.words
