@@ -13,7 +13,7 @@ parse κs args o o' p q = same p q & refl
 -- ---- bytes.rt
 
 pub read16 : OneOutcome contract.bytes.read16.ended fn.bytes.read16.Reads.Post
-read16 κs args o o' p q = same p.0 q.0 & refl
+read16 κs args o o' p q = same p q & refl
 
 pub read_f32 : OneOutcome contract.bytes.read_f32.ended fn.bytes.read_f32.Reads.Post
 read_f32 κs args o o' p q = same p q & refl

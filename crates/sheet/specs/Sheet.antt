@@ -1,12 +1,12 @@
 -- Document 01, "The preview program": the sheet, in its order: depth 4 bits, trimming flag 1, count 11; then f32 smoothing, f32 offset, f32 distance only if
 -- flagged, iterations 16 bits, f64 tolerance, points. Definitions only; assumes nothing.
-use Rattle.std.specs.Prelude.{Bool, cond, not, ◌||◌, ◌&&◌, List, ℕ, ◌+◌, ◌*◌, ◌/◌, ◌%◌, ltb, leb, eqb, length, get_or, Float, Option, Some, None}
+use Rattle.std.specs.Prelude.{Bool, cond, not, ◌||◌, ◌&&◌, List, ℕ, ◌+◌, ◌*◌, ◌/◌, ◌%◌, ltb, leb, eqb, length, get_or, Float, Result, Ok, Err, codes}
 use Rattle.std.specs.Float.Ieee.{of_bits}
 use Rattle.std.specs.Float.{binary32, binary64}
 use Rattle.points.specs.Points.{numbers_per_point}
 use Rattle.sheet.specs.declared.Header.{Header}
-use Rattle.sheet.specs.declared.Sheet.{Sheet}
-use Rattle.sheet.specs.declared.Sheet.TheVariants.{Wrong, Deep, Fits}
+use Rattle.sheet.specs.declared.SheetError.{SheetError}
+use Rattle.sheet.specs.declared.SheetError.TheVariants.{Wrong, Deep}
 
 -- ---- two, four and eight bytes from i on, most significant first
 
@@ -80,7 +80,12 @@ is_wrong s =
     || (ltb 256 (count_of (be16 s 0)) || not (eqb (length s) (start_of (be16 s 0) + point_bytes (be16 s 0))))
 
 -- a depth 4 to 8, after that check
-unfoldable pub sheet_of : (s : List ℕ) → Sheet
+unfoldable pub sheet_of : (s : List ℕ) → Result Header SheetError
 sheet_of s =
-    cond (is_wrong s) Wrong
-    (cond (leb 4 (depth_of (be16 s 0)) && leb (depth_of (be16 s 0)) 8) Deep (Fits (header_of s (be16 s 0))))
+    cond (is_wrong s) (Err Wrong)
+    (cond (leb 4 (depth_of (be16 s 0)) && leb (depth_of (be16 s 0)) 8) (Err Deep) (Ok (header_of s (be16 s 0))))
+
+-- what the preview says of a sheet that it does not go on with
+abbrev pub said_of : SheetError → List ℕ
+said_of Wrong = codes "sheet"
+said_of Deep = codes "preview only"

@@ -3,35 +3,40 @@ ghost use Rattle.std.specs.Prelude.{◌≡◌, ◌+◌, ◌*◌, ◌<◌, ◌≤
 ghost use Rattle.lists.specs.Lists.{tabulate};
 ghost use Rattle.sheet.specs.Sheet.{be16, be32, be64, f32_at, f64_at, float_at};
 
-// A byte, with its bound.
-fn wide(byte: u8) -> u64
-    ensures { (result ≡ byte) × (result < 256) }
-{
-    byte as u64
-}
-
 // Two bytes from a place on.
-pub fn read16(sheet: &[u8], at: usize) -> u64
+#[tactic(auto, unfolding(crate::specs::Sheet::be16))]
+pub fn read16(sheet: &[u8], at: usize) -> u16
     requires { at + 2 ≤ length sheet.now }
-    ensures { (result ≡ be16 sheet.now at) × (result < 65536) }
+    ensures { result ≡ be16 sheet.now at }
 {
-    wide(sheet[at]) * 256 + wide(sheet[at + 1])
+    u16::from_be_bytes([sheet[at], sheet[at + 1]])
 }
 
 // Four bytes.
-fn read32(sheet: &[u8], at: usize) -> u64
+#[tactic(auto, unfolding(crate::specs::Sheet::be16, crate::specs::Sheet::be32))]
+fn read32(sheet: &[u8], at: usize) -> u32
     requires { at + 4 ≤ length sheet.now }
-    ensures { (result ≡ be32 sheet.now at) × (result < 4294967296) }
+    ensures { result ≡ be32 sheet.now at }
 {
-    read16(sheet, at) * 65536 + read16(sheet, at + 2)
+    u32::from_be_bytes([sheet[at], sheet[at + 1], sheet[at + 2], sheet[at + 3]])
 }
 
 // Eight bytes.
+#[tactic(auto, unfolding(crate::specs::Sheet::be16, crate::specs::Sheet::be32, crate::specs::Sheet::be64))]
 fn read64(sheet: &[u8], at: usize) -> u64
     requires { at + 8 ≤ length sheet.now }
     ensures { result ≡ be64 sheet.now at }
 {
-    read32(sheet, at) * 4294967296 + read32(sheet, at + 4)
+    u64::from_be_bytes([
+        sheet[at],
+        sheet[at + 1],
+        sheet[at + 2],
+        sheet[at + 3],
+        sheet[at + 4],
+        sheet[at + 5],
+        sheet[at + 6],
+        sheet[at + 7],
+    ])
 }
 
 // The float of four bytes; each NaN pattern is the one NaN.
@@ -39,7 +44,7 @@ pub fn read_f32(sheet: &[u8], at: usize) -> f32
     requires { at + 4 ≤ length sheet.now }
     ensures { result ≡ f32_at sheet.now at }
 {
-    arith::float32(read32(sheet, at) as u32)
+    arith::float32(read32(sheet, at))
 }
 
 // The float of eight bytes.
@@ -51,6 +56,7 @@ pub fn read_f64(sheet: &[u8], at: usize) -> f64
 }
 
 // As many floats as there is room for, from a place on: the points of a sheet.
+#[tactic(auto, using(lists::specs::Laws::Fill::filled_none, lists::specs::Laws::Fill::filled_done))]
 pub fn read_floats(sheet: &[u8], start: usize, out: &mut [f32])
     requires { start + 4 * length out.old ≤ length sheet.now }
     ensures { out.new ≡ tabulate (length out.old) (float_at sheet.now start) }

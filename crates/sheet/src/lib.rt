@@ -4,13 +4,14 @@
 
 mod bytes;
 
-ghost use Rattle.std.specs.Prelude.{◌≡◌, ◌+◌, ◌*◌, ◌<◌, ◌≤◌, length};
-ghost use Rattle.sheet.specs.Sheet.{flag_of, trimming_of, header_of, sheet_of};
+ghost use Rattle.std.specs.Prelude.{Some, ◌≡◌, ◌+◌, ◌*◌, ◌<◌, ◌≤◌, length};
+ghost use Rattle.sheet.specs.Sheet.{flag_of, trimming_of, header_of, sheet_of, said_of};
 
 pub use bytes::read_floats;
 use bytes::{read_f32, read_f64, read16};
 use points::Point;
 use settings::{Settings, Trimming};
+use std::fmt;
 
 // What stands before the points, how many there are, and where they start.
 #[derive(Clone, Copy)]
@@ -20,16 +21,28 @@ pub struct Header {
     pub start: usize,
 }
 
-// A sheet of the wrong length or with too many points; one whose depth the preview leaves to the library's other callers; and one to go on with.
-#[derive(Clone, Copy)]
-pub enum Sheet {
+// Why the preview does not go on with a sheet.
+#[derive(Clone, Copy, PartialEq, Eq, Debug)]
+pub enum SheetError {
+    // The wrong length, or too many points.
     Wrong,
+    // A depth that the preview leaves to the library's other callers.
     Deep,
-    Fits(Header),
+}
+
+impl fmt::Display for SheetError {
+    ghost output = { λ e. Some (said_of e) };
+
+    fn fmt<W: fmt::Write>(&self, f: &mut fmt::Formatter<W>) -> fmt::Result {
+        match self {
+            SheetError::Wrong => write!(f, "sheet"),
+            SheetError::Deep => write!(f, "preview only"),
+        }
+    }
 }
 
 // "f32 distance only if flagged."
-fn read_trimming(sheet: &[u8], word: u64, flag: u64) -> Trimming
+fn read_trimming(sheet: &[u8], word: u16, flag: u16) -> Trimming
     requires { (flag ≡ flag_of word) × (14 ≤ length sheet.now) }
     ensures { result ≡ trimming_of sheet.now word }
 {
@@ -40,49 +53,47 @@ fn read_trimming(sheet: &[u8], word: u64, flag: u64) -> Trimming
 }
 
 // The header of a sheet whose first 16 bits are the word.
-fn read_header(sheet: &[u8], word: u64) -> Header
-    requires { (word < 65536) × (20 + 4 * flag_of word ≤ length sheet.now) }
+fn read_header(sheet: &[u8], word: u16) -> Header
+    requires { 20 + 4 * flag_of word ≤ length sheet.now }
     ensures { result ≡ header_of sheet.now word }
 {
     let flag = word / 2048 % 2;
-    let more = (4 * flag) as usize;
-    let trimming = read_trimming(sheet, word, flag);
+    let more = 4 * usize::from(flag);
     let settings = Settings {
-        depth: (word / 4096) as u32,
+        depth: u32::from(word / 4096),
         smoothing: read_f32(sheet, 2),
         iso_offset: read_f32(sheet, 6),
-        trimming,
-        max_iterations: read16(sheet, 10 + more) as usize,
+        trimming: read_trimming(sheet, word, flag),
+        max_iterations: usize::from(read16(sheet, 10 + more)),
         tolerance: read_f64(sheet, 12 + more),
     };
     Header {
         settings,
-        count: (word % 2048) as usize,
+        count: usize::from(word % 2048),
         start: 20 + more,
     }
 }
 
 // "A short or overlong sheet, or a larger count" than 256 comes first; "a depth 4 to 8 .. after that check". Other depths go on: the library refuses them.
-pub fn parse(sheet: &[u8]) -> Sheet
+#[tactic(auto, unfolding(crate::specs::Sheet::sheet_of, crate::specs::Sheet::is_wrong))]
+pub fn parse(sheet: &[u8]) -> Result<Header, SheetError>
     ensures { result ≡ sheet_of sheet.now }
 {
     if sheet.len() < 2 {
-        return Sheet::Wrong;
+        return Err(SheetError::Wrong);
     }
     let word = read16(sheet, 0);
-    let count = (word % 2048) as usize;
+    let count = usize::from(word % 2048);
     if 256 < count {
-        return Sheet::Wrong;
+        return Err(SheetError::Wrong);
     }
-    let more = (4 * (word / 2048 % 2)) as usize;
+    let more = 4 * usize::from(word / 2048 % 2);
     if sheet.len() != 20 + more + 4 * Point::NUMBERS * count {
-        return Sheet::Wrong;
+        return Err(SheetError::Wrong);
     }
     let depth = word / 4096;
-    if 4 <= depth {
-        if depth <= 8 {
-            return Sheet::Deep;
-        }
+    if 4 <= depth && depth <= 8 {
+        return Err(SheetError::Deep);
     }
-    Sheet::Fits(read_header(sheet, word))
+    Ok(read_header(sheet, word))
 }

@@ -1,10 +1,11 @@
 -- A sheet that fits has its points: at most 256, from the header's end to the sheet's; and it asks for no depth from 4 to 8. By the tests that a sheet passes.
 -- Assumes nothing.
-use Rattle.std.specs.Prelude.{◌≡◌, refl, Bool, true, false, cond, not, ◌||◌, ◌&&◌, List, ℕ, ◌+◌, ◌*◌, ◌≤◌, ◌<◌, ltb, leb, eqb, length}
+use Rattle.std.specs.Prelude.{◌≡◌, refl, Bool, true, false, cond, not, ◌||◌, ◌&&◌, List, ℕ, ◌+◌, ◌*◌, ◌≤◌, ◌<◌, ltb, leb, eqb, length, Result, Ok, Err}
 use Rattle.std.proofs.Common.{subst, true≢false, arith, ltb-false, leb-false, eqb-true, le-leb}
 use Rattle.points.specs.Points.{numbers_per_point}
 use Rattle.sheet.specs.declared.Header.{Header}
-use Rattle.sheet.specs.declared.Sheet.TheVariants.{Wrong, Deep, Fits}
+use Rattle.sheet.specs.declared.SheetError.{SheetError}
+use Rattle.sheet.specs.declared.SheetError.TheVariants.{Wrong, Deep}
 use Rattle.sheet.specs.Sheet.{be16, depth_of, count_of, start_of, point_bytes, header_of, is_wrong, sheet_of}
 
 pub record Roomy (s : List ℕ) (h : Header) : Type 0 where
@@ -40,15 +41,15 @@ right s e shallow =
     indeed true e = refl
     indeed false e = absurd (true≢false e)
 
-pub fits_roomy : (s : List ℕ) (h : Header) → sheet_of s ≡ Fits h → Roomy s h
+pub fits_roomy : (s : List ℕ) (h : Header) → sheet_of s ≡ Ok h → Roomy s h
 unfolding sheet_of
 fits_roomy s h e = by_cases (is_wrong s) (leb 4 (depth_of (be16 s 0)) && leb (depth_of (be16 s 0)) 8) refl refl e
   where
-    same : {a b : Header} → Fits a ≡ Fits b → a ≡ b
+    same : {a b : Header} → ◌≡◌ {A = Result Header SheetError} (Ok a) (Ok b) → a ≡ b
     same p = cc
 
     by_cases : (w d : Bool) → is_wrong s ≡ w → leb 4 (depth_of (be16 s 0)) && leb (depth_of (be16 s 0)) 8 ≡ d
-        → cond w Wrong (cond d Deep (Fits (header_of s (be16 s 0)))) ≡ Fits h → Roomy s h
+        → cond w (Err Wrong) (cond d (Err Deep) (Ok (header_of s (be16 s 0)))) ≡ Ok h → Roomy s h
     by_cases true d p r q = let z : ◌≡◌ {A = ℕ} 0 1 = cc in absurd (omega arith)
     by_cases false true p r q = let z : ◌≡◌ {A = ℕ} 0 1 = cc in absurd (omega arith)
     by_cases false false p r q = subst (λ (k : Header). Roomy s k) (same q) (right s p r)
