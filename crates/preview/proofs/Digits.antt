@@ -1,26 +1,9 @@
--- What `digit` and `hex` compute is what the definitions say: a digit by a test of all sixteen (`digit_is`), eight digits by dividing by 16 again and again
--- (`hex_is`). Assumes nothing.
-use mathlib.Core.Path.{◌≡◌, refl, sym, ap, ◌∙◌}
-use mathlib.Core.Bool.{Bool, true, cond}
+-- What `hex` computes is what the definition says: eight digits by dividing by 16 again and again (`hex_is`). Assumes nothing.
+use mathlib.Core.Path.{◌≡◌}
 use mathlib.Core.List.{[], ◌∷◌}
-use Prim.Native.Nat.{ℕ, ◌+◌, ◌/◌, ◌%◌, ◌<◌}
+use Prim.Native.Nat.{ℕ, ◌/◌, ◌%◌}
 use native.Mathlib.Omega.{arith}
-use borrow.Author.Tests.{eqb-true}
-use lib.Dec.{ltb, eqb}
-use Rattle.closed.specs.Lists.{member, upto, In}
-use Rattle.closed.proofs.Laws.Counting.{every_all}
-use Rattle.closed.proofs.Laws.Renumber.{all_in, in_at, at_upto}
 use Rattle.preview.specs.Preview.{hex_digit, in_hex}
-
-pub digit_is : (d : ℕ) → d < 16 → hex_digit d ≡ cond (ltb d 10) (48 + d) (55 + d)
-unfolding hex_digit upto
-digit_is d h = eqb-true (hex_digit d) (cond (ltb d 10) (48 + d) (55 + d)) (all_in (λ x. test x ≡ true) (upto 16) (every_all test (upto 16) refl) d known)
-  where
-    test : ℕ → Bool
-    test x = eqb (hex_digit x) (cond (ltb x 10) (48 + x) (55 + x))
-
-    known : In d (upto 16)
-    known = sym (ap (λ (x : ℕ). member x (upto 16)) (at_upto 16 d 0 h)) ∙ in_at (upto 16) 0 d h
 
 pub hex_is : (n : ℕ)
     → in_hex 8 n

@@ -8,7 +8,7 @@ ghost use Rattle.preview.specs.Preview.{hex_digit, in_hex, Previewed};
 use answers::Answer;
 use points::Point;
 use settings::Settings;
-use sheet::{Header, Sheet};
+use sheet::Header;
 use std::io;
 
 // A sheet is at most 24 + 24·256 = 6,168 bytes: one more is read, so that a longer one is seen to be.
@@ -20,17 +20,10 @@ fn main(rt: HostRuntime) -> io::Result<()> {
 
 // `sheet` comes before `preview only`, and that before any refusal.
 fn show(rt: &impl Print, bytes: &[u8]) -> io::Result<()> {
-    let found = sheet::parse(bytes);
-    match found {
-        Sheet::Wrong => say(rt, b"sheet\n")?,
-        Sheet::Deep => say(rt, b"preview only\n")?,
-        Sheet::Fits(header) => draw(rt, bytes, header)?,
+    match sheet::parse(bytes) {
+        Ok(header) => draw(rt, bytes, header),
+        Err(error) => println!(rt; "{error}"),
     }
-    Ok(())
-}
-
-fn say(rt: &impl Print, text: &[u8]) -> io::Result<()> {
-    rt.write_all(text)
 }
 
 // Up to 256 points of six numbers.
@@ -83,72 +76,48 @@ fn tell(rt: &impl Print, answer: Answer, vertices: &[f32], faces: &[u32]) -> io:
     requires { answer.number ≤ 6 }
 {
     if answer.number != 0 {
-        say(rt, b"refused ")?;
-        print!(rt; "{}", answer.number)?;
-        say(rt, b"\n")?;
-        return Ok(());
+        return println!(rt; "refused {}", answer.number);
     }
-    say(rt, b"mesh ")?;
-    print!(rt; "{}", answer.vertices)?;
-    say(rt, b" ")?;
-    print!(rt; "{}", answer.faces)?;
-    say(rt, b"\n")?;
-    tell_vertices(rt, vertices, answer.vertices)?;
-    tell_faces(rt, faces, answer.faces)
+    println!(rt; "mesh {} {}", answer.vertices, answer.faces)?;
+    tell_lines(rt, vertices, answer.vertices)?;
+    tell_lines(rt, faces, answer.faces)
 }
 
-fn tell_vertices(rt: &impl Print, vertices: &[f32], count: usize) -> io::Result<()> {
-    for i in 0..vertices.len() / 3 {
-        if count <= i {
-            return Ok(());
+// A number of the mesh as it is printed: an eight-digit pattern, or in decimal.
+trait Told: Copy {
+    fn tell(self, rt: &impl Print) -> io::Result<()>;
+}
+
+impl Told for f32 {
+    fn tell(self, rt: &impl Print) -> io::Result<()> {
+        rt.write_all(&hex(arith::pattern32(self)))
+    }
+}
+
+impl Told for u32 {
+    fn tell(self, rt: &impl Print) -> io::Result<()> {
+        print!(rt; "{self}")
+    }
+}
+
+// Three numbers, single spaces between.
+fn tell_line<T: Told>(rt: &impl Print, a: T, b: T, c: T) -> io::Result<()> {
+    a.tell(rt)?;
+    print!(rt; " ")?;
+    b.tell(rt)?;
+    print!(rt; " ")?;
+    c.tell(rt)?;
+    println!(rt;)
+}
+
+// A line for each of the first `count` vertices, or faces.
+fn tell_lines<T: Told>(rt: &impl Print, numbers: &[T], count: usize) -> io::Result<()> {
+    for three in numbers.chunks_exact(3).take(count) {
+        if let [a, b, c] = three {
+            tell_line(rt, *a, *b, *c)?;
         }
-        tell_vertex(
-            rt,
-            vertices[3 * i],
-            vertices[3 * i + 1],
-            vertices[3 * i + 2],
-        )?;
     }
     Ok(())
-}
-
-fn tell_faces(rt: &impl Print, faces: &[u32], count: usize) -> io::Result<()> {
-    for i in 0..faces.len() / 3 {
-        if count <= i {
-            return Ok(());
-        }
-        tell_face(rt, faces[3 * i], faces[3 * i + 1], faces[3 * i + 2])?;
-    }
-    Ok(())
-}
-
-// Three eight-digit patterns, single spaces between.
-fn tell_vertex(rt: &impl Print, x: f32, y: f32, z: f32) -> io::Result<()> {
-    tell_hex(rt, x)?;
-    say(rt, b" ")?;
-    tell_hex(rt, y)?;
-    say(rt, b" ")?;
-    tell_hex(rt, z)?;
-    say(rt, b"\n")
-}
-
-// Three decimal numbers.
-fn tell_face(rt: &impl Print, a: u32, b: u32, c: u32) -> io::Result<()> {
-    tell_number(rt, a)?;
-    say(rt, b" ")?;
-    tell_number(rt, b)?;
-    say(rt, b" ")?;
-    tell_number(rt, c)?;
-    say(rt, b"\n")
-}
-
-fn tell_number(rt: &impl Print, n: u32) -> io::Result<()> {
-    print!(rt; "{n}")
-}
-
-fn tell_hex(rt: &impl Print, x: f32) -> io::Result<()> {
-    let text = hex(arith::pattern32(x));
-    rt.write_all(&text)
 }
 
 // Eight upper-case digits, most significant first.
@@ -167,9 +136,10 @@ fn hex(n: u32) -> [u8; 8]
     ]
 }
 
+#[tactic(auto, unfolding(crate::specs::Preview::hex_digit))]
 fn digit(d: u32) -> u8
     requires { d < 16 }
     ensures { result ≡ hex_digit d }
 {
-    if d < 10 { 48 + d as u8 } else { 55 + d as u8 }
+    b"0123456789ABCDEF"[d as usize]
 }

@@ -4,4 +4,4 @@ use Rattle.sheet.specs.Laws.SheetRoom.{fits_roomy}
 use Rattle.preview.proofs.show.Goals as goal
 
 pub draw-requires : goal.draw-requires
-draw-requires g c = fits_roomy c.args.bytes.now _ (sym c.parse-found.ensures ∙ c.in-Fits.is)
+draw-requires g c = fits_roomy c.args.bytes.now _ (sym c.parse.ensures ∙ c.in-Ok.is)
