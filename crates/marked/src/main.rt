@@ -8,22 +8,6 @@ use blur::Kernel;
 use grid::{Edge, Grid};
 use std::io;
 
-fn line(rt: &impl Print, name: &[u8], pattern: u64, width: usize) -> io::Result<()> {
-    rt.write_all(name)?;
-    print!(rt; "{pattern:0width$x}")?;
-    rt.write_all(b"\n")
-}
-
-fn count(rt: &impl Print, name: &[u8], n: usize) -> io::Result<()> {
-    rt.write_all(name)?;
-    print!(rt; "{n}")?;
-    rt.write_all(b"\n")
-}
-
-fn single(rt: &impl Print, name: &[u8], x: f32) -> io::Result<()> {
-    line(rt, name, arith::pattern32(x) as u64, 8)
-}
-
 // A grid of 8 nodes per side, on which a coordinate is its own u.
 fn eight() -> Grid
     ensures { result.nodes ≡ 8 }
@@ -38,33 +22,40 @@ fn eight() -> Grid
 fn p10(rt: &impl Print) -> io::Result<()> {
     let node = eight().node([1, 2, 3]);
     let edge = Edge::of(node, 2);
-    count(rt, b"P10 ", node.place())?;
-    count(rt, b"P10 ", edge.place())
+    println!(rt; "P10 {}", node.place())?;
+    println!(rt; "P10 {}", edge.place())
 }
 
 fn p11(rt: &impl Print) -> io::Result<()> {
     let cell = eight().cell([7.0, 7.0, 7.0]);
     let base = cell.base;
     let frac = cell.frac;
-    count(rt, b"P11 ", base[0])?;
-    line(rt, b"P11 ", arith::pattern64(frac[0]), 16)
+    println!(rt; "P11 {}", base[0])?;
+    println!(rt; "P11 {:016x}", arith::pattern64(frac[0]))
+}
+
+// P3 to P7.
+fn narrowed(rt: &impl Print) -> io::Result<()> {
+    let values = [
+        1.000000059604644775390625,
+        1.000000178813934326171875,
+        340282366920938463463374607431768211456.0,
+        7.006492321624085e-46,
+        2.1019476964872256e-45,
+    ];
+    for (i, x) in values.iter().enumerate() {
+        println!(rt; "P{} {:08x}", i + 3, arith::pattern32(arith::narrow(*x)))?;
+    }
+    Ok(())
 }
 
 fn main(rt: HostRuntime) -> io::Result<()> {
-    single(&rt, b"P1 ", arith::root(4.0))?;
-    line(&rt, b"P1 ", arith::pattern64(arith::root(4.0)), 16)?;
-    line(&rt, b"P2 ", arith::pattern64(arith::root(2.0)), 16)?;
-    single(&rt, b"P3 ", arith::narrow(1.000000059604644775390625))?;
-    single(&rt, b"P4 ", arith::narrow(1.000000178813934326171875))?;
-    single(
-        &rt,
-        b"P5 ",
-        arith::narrow(340282366920938463463374607431768211456.0),
-    )?;
-    single(&rt, b"P6 ", arith::narrow(7.006492321624085e-46))?;
-    single(&rt, b"P7 ", arith::narrow(2.1019476964872256e-45))?;
-    count(&rt, b"P8 ", Kernel::radius_of(0.5))?;
-    count(&rt, b"P9 ", Kernel::radius_of(6.0))?;
+    println!(rt; "P1 {:08x}", arith::pattern32(arith::root32(4.0)))?;
+    println!(rt; "P1 {:016x}", arith::pattern64(arith::root64(4.0)))?;
+    println!(rt; "P2 {:016x}", arith::pattern64(arith::root64(2.0)))?;
+    narrowed(&rt)?;
+    println!(rt; "P8 {}", Kernel::radius_of(0.5))?;
+    println!(rt; "P9 {}", Kernel::radius_of(6.0))?;
     p10(&rt)?;
     p11(&rt)
 }
