@@ -24,63 +24,33 @@ fn code(u: Result<(), Unusable>) -> u32 {
     }
 }
 
-// What a point adds to a count.
-fn one_if_equal(a: u32, b: u32) -> usize
-    ensures { result ≤ 1 }
-{
-    if a == b { 1 } else { 0 }
-}
-
 // How many points have the reason of this number.
 fn count_of(points: &[f32], reason: u32) -> usize {
-    let all = Point::given(points);
-    let mut n = 0usize;
-    let mut i = 0usize;
-    while i < all {
-        n += one_if_equal(code(Point::read(points, i).usability()), reason);
-        i += 1;
-    }
-    n
-}
-
-// A name and a count.
-fn number(rt: &impl Print, name: &[u8], n: usize) -> io::Result<()> {
-    rt.write_all(name)?;
-    print!(rt; "{n}")
+    (0..Point::given(points))
+        .filter(|i| code(Point::read(points, *i).usability()) == reason)
+        .count()
 }
 
 // The count that the hot loops use, then the four counts by reason: the first of them is the same number, asked another way.
 fn print_counts(rt: &impl Print, points: &[f32]) -> io::Result<()> {
-    number(rt, b"  usable ", points::usable_count(points))?;
-    number(rt, b", by reason ", count_of(points, 0))?;
-    number(rt, b" ", count_of(points, 1))?;
-    number(rt, b" ", count_of(points, 2))?;
-    number(rt, b" ", count_of(points, 3))?;
-    rt.write_all(b"\n")
+    print!(rt; "  usable {}, by reason", points::usable_count(points))?;
+    for reason in 0..4 {
+        print!(rt; " {}", count_of(points, reason))?;
+    }
+    println!(rt;)
 }
 
 // ---- floats
 
-// A blank and a pattern.
-fn float(rt: &impl Print, x: f64) -> io::Result<()> {
-    rt.write_all(b" ")?;
-    print!(rt; "{:016x}", arith::pattern64(x))
-}
-
 // A line with one number.
-fn single(rt: &impl Print, name: &[u8], x: f64) -> io::Result<()> {
-    rt.write_all(name)?;
-    float(rt, x)?;
-    rt.write_all(b"\n")
+fn single(rt: &impl Print, name: &str, x: f64) -> io::Result<()> {
+    println!(rt; "  {name} {:016x}", arith::pattern64(x))
 }
 
 // A line with three.
-fn triple(rt: &impl Print, name: &[u8], p: [f64; 3]) -> io::Result<()> {
-    rt.write_all(name)?;
-    float(rt, p[0])?;
-    float(rt, p[1])?;
-    float(rt, p[2])?;
-    rt.write_all(b"\n")
+fn triple(rt: &impl Print, name: &str, p: [f64; 3]) -> io::Result<()> {
+    let [x, y, z] = p.map(|c| arith::pattern64(c));
+    println!(rt; "  {name} {x:016x} {y:016x} {z:016x}")
 }
 
 // ---- a case
@@ -94,20 +64,19 @@ fn report(rt: &impl Print, points: &[f32], list: &mut [f32]) -> io::Result<()>
     let lo = b.lo;
     let hi = b.hi;
     let extent = b.extent();
-    triple(rt, b"  low", lo)?;
-    triple(rt, b"  high", hi)?;
-    single(rt, b"  extent", extent)?;
-    single(rt, b"  side", b.side())?;
-    triple(rt, b"  origin", b.origin())?;
-    single(rt, b"  spacing", search::spacing(points, list, extent))
+    triple(rt, "low", lo)?;
+    triple(rt, "high", hi)?;
+    single(rt, "extent", extent)?;
+    single(rt, "side", b.side())?;
+    triple(rt, "origin", b.origin())?;
+    single(rt, "spacing", search::spacing(points, list, extent))
 }
 
 // Makes a case's points and reports on the first `all` of them. 2304 points have room.
-fn run(rt: &impl Print, name: &[u8], stand: Stand, all: usize, spoilt: usize) -> io::Result<()>
+fn run(rt: &impl Print, name: &str, stand: Stand, all: usize, spoilt: usize) -> io::Result<()>
     requires { all ≤ 2304 }
 {
-    rt.write_all(name)?;
-    rt.write_all(b"\n")?;
+    println!(rt; "{name}")?;
     let case = Case { stand, spoilt };
     let mut points = [0.0f32; 13824];
     let mut list = [0.0f32; 2304];
@@ -116,18 +85,18 @@ fn run(rt: &impl Print, name: &[u8], stand: Stand, all: usize, spoilt: usize) ->
 }
 
 fn main(rt: HostRuntime) -> io::Result<()> {
-    run(&rt, b"none", Stand::Spread, 0, 0)?;
-    run(&rt, b"9 of 12", Stand::Spread, 12, 3)?;
-    run(&rt, b"10 of 13", Stand::Spread, 13, 3)?;
-    run(&rt, b"999 of 1199", Stand::Spread, 1199, 200)?;
-    run(&rt, b"1000 of 1200", Stand::Spread, 1200, 200)?;
-    run(&rt, b"1999 of 2299", Stand::Spread, 2299, 300)?;
-    run(&rt, b"2000 of 2300", Stand::Spread, 2300, 300)?;
-    run(&rt, b"doubles", Stand::Doubled, 40, 3)?;
-    run(&rt, b"short normals", Stand::Short, 40, 10)?;
-    run(&rt, b"1.8e19 apart", Stand::Wide, 16, 0)?;
-    run(&rt, b"2e19 apart", Stand::Apart, 16, 0)?;
-    run(&rt, b"minus zero and subnormal", Stand::Minute, 40, 10)?;
-    run(&rt, b"largest", Stand::Largest, 12, 2)?;
-    run(&rt, b"all equal", Stand::Equal, 20, 5)
+    run(&rt, "none", Stand::Spread, 0, 0)?;
+    run(&rt, "9 of 12", Stand::Spread, 12, 3)?;
+    run(&rt, "10 of 13", Stand::Spread, 13, 3)?;
+    run(&rt, "999 of 1199", Stand::Spread, 1199, 200)?;
+    run(&rt, "1000 of 1200", Stand::Spread, 1200, 200)?;
+    run(&rt, "1999 of 2299", Stand::Spread, 2299, 300)?;
+    run(&rt, "2000 of 2300", Stand::Spread, 2300, 300)?;
+    run(&rt, "doubles", Stand::Doubled, 40, 3)?;
+    run(&rt, "short normals", Stand::Short, 40, 10)?;
+    run(&rt, "1.8e19 apart", Stand::Wide, 16, 0)?;
+    run(&rt, "2e19 apart", Stand::Apart, 16, 0)?;
+    run(&rt, "minus zero and subnormal", Stand::Minute, 40, 10)?;
+    run(&rt, "largest", Stand::Largest, 12, 2)?;
+    run(&rt, "all equal", Stand::Equal, 20, 5)
 }

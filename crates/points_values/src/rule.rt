@@ -39,10 +39,8 @@ fn turn(s: u64) -> u64
     requires { s < 2147483647 }
     ensures { result < 2147483647 }
 {
-    if s % 2 == 0 {
-        return s * 16807 % 2147483647;
-    }
-    s * 48271 % 2147483647
+    let factor = if s % 2 == 0 { 16807 } else { 48271 };
+    s * factor % 2147483647
 }
 
 // The number that a point starts from.
@@ -78,9 +76,7 @@ fn coordinate(stand: Stand, i: usize, axis: usize, s: u64) -> f32
     requires { i < 65536 }
 {
     match stand {
-        Stand::Spread => small(s % 65536) / 256.0 - 128.0,
-        Stand::Doubled => small(s % 65536) / 256.0 - 128.0,
-        Stand::Short => small(s % 65536) / 256.0 - 128.0,
+        Stand::Spread | Stand::Doubled | Stand::Short => small(s % 65536) / 256.0 - 128.0,
         Stand::Wide => along_x(small(i as u64) * 18000000000000000000.0, axis),
         Stand::Apart => along_x(small(i as u64) * 20000000000000000000.0, axis),
         Stand::Minute => minute(s),
@@ -97,17 +93,16 @@ fn along_x(x: f32, axis: usize) -> f32 {
 // -0 where 3 divides the number, else the subnormal of that significand.
 fn minute(s: u64) -> f32 {
     if s % 3 == 0 {
-        return -0.0;
+        -0.0
+    } else {
+        arith::float32((s % 8388608) as u32)
     }
-    arith::float32((s % 8388608) as u32)
 }
 
 // The largest f32, negative where the number is odd.
 fn largest(s: u64) -> f32 {
-    if s % 2 == 0 {
-        return arith::float32(0x7F7F_FFFF);
-    }
-    arith::float32(0xFF7F_FFFF)
+    let pattern = if s % 2 == 0 { 0x7F7F_FFFF } else { 0xFF7F_FFFF };
+    arith::float32(pattern)
 }
 
 // A normal that is never too short: its first component is 1 at least. Or the shortest that is usable.
@@ -139,36 +134,24 @@ fn good(stand: Stand, i: usize) -> Point
 
 // Kinds 0, 1 and 2 spoil the position.
 fn spoilt_at(kind: usize, at: [f32; 3]) -> [f32; 3] {
-    if kind == 0 {
-        return [0.0 / 0.0, at[1], at[2]];
+    match kind {
+        0 => [0.0 / 0.0, at[1], at[2]],
+        1 => [at[0], 1.0 / 0.0, at[2]],
+        2 => [at[0], at[1], -1.0 / 0.0],
+        _ => at,
     }
-    if kind == 1 {
-        return [at[0], 1.0 / 0.0, at[2]];
-    }
-    if kind == 2 {
-        return [at[0], at[1], -1.0 / 0.0];
-    }
-    at
 }
 
 // Kinds 3 to 7 spoil the normal: zero, NaN, a length that overflows, one step short of usable, a length whose square is subnormal.
 fn spoilt_normal(kind: usize, normal: [f32; 3]) -> [f32; 3] {
-    if kind == 3 {
-        return [0.0, -0.0, 0.0];
+    match kind {
+        3 => [0.0, -0.0, 0.0],
+        4 => [normal[0], 0.0 / 0.0, normal[2]],
+        5 => [normal[0], normal[1], 100000000000000000000.0],
+        6 => [0.0, arith::float32(0x2B8C_BCCB), 0.0],
+        7 => [0.00000000000000000001, 0.00000000000000000001, 0.0],
+        _ => normal,
     }
-    if kind == 4 {
-        return [normal[0], 0.0 / 0.0, normal[2]];
-    }
-    if kind == 5 {
-        return [normal[0], normal[1], 100000000000000000000.0];
-    }
-    if kind == 6 {
-        return [0.0, arith::float32(0x2B8C_BCCB), 0.0];
-    }
-    if kind == 7 {
-        return [0.00000000000000000001, 0.00000000000000000001, 0.0];
-    }
-    normal
 }
 
 // The kinds come in turn; short normals are all spoilt by a step.
@@ -197,12 +180,11 @@ fn made(case: Case, i: usize) -> Point
 {
     let stand = case.stand;
     let p = good(stand, i);
-    if i % 4 == 3 {
-        if i / 4 < case.spoilt {
-            return spoil(p, kind_of(stand, i));
-        }
+    if i % 4 == 3 && i / 4 < case.spoilt {
+        spoil(p, kind_of(stand, i))
+    } else {
+        p
     }
-    p
 }
 
 // Number n of the flat slice: six for each point.
@@ -221,9 +203,7 @@ pub fn fill(points: &mut [f32], case: Case)
     requires { length points.old ≤ 13824 }
     ensures { length points.new ≡ length points.old }
 {
-    let mut n = 0usize;
-    while n < points.len() {
-        points[n] = number(case, n);
-        n += 1;
+    for (n, x) in points.iter_mut().enumerate() {
+        *x = number(case, n);
     }
 }
