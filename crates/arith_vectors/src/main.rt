@@ -11,15 +11,15 @@ fn answer(name: &[u8], pattern: u64) -> Option<u64> {
     let x = arith::float64(pattern);
     let answer = match name {
         b"sqrt32" => {
-            arith::pattern32(arith::root32(arith::float32((pattern % 0x1_0000_0000) as u32))) as u64
+            arith::pattern32(arith::root(arith::float32((pattern % 0x1_0000_0000) as u32))) as u64
         }
-        b"sqrt64" => arith::pattern64(arith::root64(x)),
+        b"sqrt64" => arith::pattern64(arith::root(x)),
         b"narrow" => arith::pattern32(arith::narrow(x)) as u64,
         b"expneg" => arith::pattern32(arith::exp_neg(x)) as u64,
         b"floor" => arith::pattern64(arith::floor(x)),
         b"ceil" => arith::pattern64(arith::ceiling(x)),
         b"sign" => arith::pattern64(arith::sign(x)),
-        b"clamp7" => arith::pattern64(arith::clamp64(x, 0.0, 7.0)),
+        b"clamp7" => arith::pattern64(arith::clamp(x, 0.0, 7.0)),
         _ => return None,
     };
     Some(answer)

@@ -10,6 +10,7 @@ mod words;
 ghost use Rattle.std.specs.Prelude.{◌≤◌, length};
 
 use answers::Answer;
+use ending::Grids;
 use replay::Words;
 use settings::Settings;
 use std::io;
@@ -29,13 +30,17 @@ fn triples(count: usize) -> usize {
 // What is not zero in the scratch, slice by slice: the end of a line.
 fn tell_scratch(
     rt: &impl Print,
-    grids: [&[f32]; 7],
+    grids: &Grids,
     edges: &[u32],
     distances: &[f32],
 ) -> io::Result<()> {
-    for grid in grids {
-        tell_count(rt, left(grid, 0))?;
-    }
+    tell_count(rt, left(grids.s0, 0))?;
+    tell_count(rt, left(grids.s1, 0))?;
+    tell_count(rt, left(grids.s2, 0))?;
+    tell_count(rt, left(grids.s3, 0))?;
+    tell_count(rt, left(grids.s4, 0))?;
+    tell_count(rt, left(grids.s5, 0))?;
+    tell_count(rt, left(grids.s6, 0))?;
     tell_count(rt, left(edges, 0))?;
     tell_count(rt, left(distances, 0))?;
     println!(rt;)
@@ -47,13 +52,7 @@ fn report(
     answer: Answer,
     vertices: &[f32],
     faces: &[u32],
-    s0: &[f32],
-    s1: &[f32],
-    s2: &[f32],
-    s3: &[f32],
-    s4: &[f32],
-    s5: &[f32],
-    s6: &[f32],
+    grids: &Grids,
     edges: &[u32],
     distances: &[f32],
 ) -> io::Result<()> {
@@ -65,7 +64,7 @@ fn report(
     print!(rt; "left")?;
     tell_count(rt, left(vertices, v))?;
     tell_count(rt, left(faces, f))?;
-    tell_scratch(rt, [s0, s1, s2, s3, s4, s5, s6], edges, distances)
+    tell_scratch(rt, grids, edges, distances)
 }
 
 // A call in slices of the recorded lengths.
@@ -75,109 +74,16 @@ fn ask(
     settings: Settings,
     vertices: &mut [f32],
     faces: &mut [u32],
-    s0: &mut [f32],
-    s1: &mut [f32],
-    s2: &mut [f32],
-    s3: &mut [f32],
-    s4: &mut [f32],
-    s5: &mut [f32],
-    s6: &mut [f32],
+    grids: &mut Grids,
     edges: &mut [u32],
     distances: &mut [f32],
 ) -> io::Result<()> {
-    let answer = poisson::poisson_reconstruction(
-        points, settings, vertices, faces, s0, s1, s2, s3, s4, s5, s6, edges, distances,
-    );
-    report(
-        rt, answer, vertices, faces, s0, s1, s2, s3, s4, s5, s6, edges, distances,
-    )
+    let answer =
+        poisson::poisson_reconstruction(points, settings, vertices, faces, grids, edges, distances);
+    report(rt, answer, vertices, faces, grids, edges, distances)
 }
 
-// Cuts the seven grids to their recorded lengths: the list asks for no more room than there is.
-fn cut_grids(
-    rt: &impl Print,
-    points: &[f32],
-    settings: Settings,
-    lengths: [usize; 11],
-    vertices: &mut [f32],
-    faces: &mut [u32],
-    s0: &mut [f32],
-    s1: &mut [f32],
-    s2: &mut [f32],
-    s3: &mut [f32],
-    s4: &mut [f32],
-    s5: &mut [f32],
-    s6: &mut [f32],
-    edges: &mut [u32],
-    distances: &mut [f32],
-) -> io::Result<()> {
-    let n0 = lengths[0].min(s0.len());
-    let n1 = lengths[1].min(s1.len());
-    let n2 = lengths[2].min(s2.len());
-    let n3 = lengths[3].min(s3.len());
-    let n4 = lengths[4].min(s4.len());
-    let n5 = lengths[5].min(s5.len());
-    let n6 = lengths[6].min(s6.len());
-    ask(
-        rt,
-        points,
-        settings,
-        vertices,
-        faces,
-        &mut s0[..n0],
-        &mut s1[..n1],
-        &mut s2[..n2],
-        &mut s3[..n3],
-        &mut s4[..n4],
-        &mut s5[..n5],
-        &mut s6[..n6],
-        edges,
-        distances,
-    )
-}
-
-// Cuts the other slices to theirs.
-fn cut(
-    rt: &impl Print,
-    points: &[f32],
-    settings: Settings,
-    lengths: [usize; 11],
-    vertices: &mut [f32],
-    faces: &mut [u32],
-    s0: &mut [f32],
-    s1: &mut [f32],
-    s2: &mut [f32],
-    s3: &mut [f32],
-    s4: &mut [f32],
-    s5: &mut [f32],
-    s6: &mut [f32],
-    edges: &mut [u32],
-    distances: &mut [f32],
-) -> io::Result<()> {
-    let e = lengths[7].min(edges.len());
-    let d = lengths[8].min(distances.len());
-    let v = lengths[9].min(vertices.len());
-    let f = lengths[10].min(faces.len());
-    cut_grids(
-        rt,
-        points,
-        settings,
-        lengths,
-        &mut vertices[..v],
-        &mut faces[..f],
-        s0,
-        s1,
-        s2,
-        s3,
-        s4,
-        s5,
-        s6,
-        &mut edges[..e],
-        &mut distances[..d],
-    )
-}
-
-// Room for grids of depth 5, full of rubbish.
+// Room for grids of depth 5, full of rubbish, and no more of it than the list asks for.
 fn lend(
     rt: &impl Print,
     points: &[f32],
@@ -195,22 +101,24 @@ fn lend(
     let mut s6 = [0.5f32; 32768];
     let mut edges = [7u32; 98304];
     let mut distances = [0.5f32; 512];
-    cut(
+    let mut grids = Grids {
+        s0: &mut s0[..lengths[0].min(32768)],
+        s1: &mut s1[..lengths[1].min(32768)],
+        s2: &mut s2[..lengths[2].min(32768)],
+        s3: &mut s3[..lengths[3].min(32768)],
+        s4: &mut s4[..lengths[4].min(32768)],
+        s5: &mut s5[..lengths[5].min(32768)],
+        s6: &mut s6[..lengths[6].min(32768)],
+    };
+    ask(
         rt,
         points,
         settings,
-        lengths,
-        &mut vertices,
-        &mut faces,
-        &mut s0,
-        &mut s1,
-        &mut s2,
-        &mut s3,
-        &mut s4,
-        &mut s5,
-        &mut s6,
-        &mut edges,
-        &mut distances,
+        &mut vertices[..lengths[9].min(32768)],
+        &mut faces[..lengths[10].min(65536)],
+        &mut grids,
+        &mut edges[..lengths[7].min(98304)],
+        &mut distances[..lengths[8].min(512)],
     )
 }
 
@@ -234,13 +142,7 @@ fn report_field(
     n: usize,
     shown: usize,
     field: &[f32],
-    s0: &[f32],
-    s1: &[f32],
-    s2: &[f32],
-    s3: &[f32],
-    s4: &[f32],
-    s5: &[f32],
-    s6: &[f32],
+    grids: &Grids,
     edges: &[u32],
     distances: &[f32],
 ) -> io::Result<()> {
@@ -248,63 +150,35 @@ fn report_field(
     tell_digest(rt, "hash-field", digest(field, n))?;
     print!(rt; "field-left")?;
     tell_count(rt, left(field, n))?;
-    tell_scratch(rt, [s0, s1, s2, s3, s4, s5, s6], edges, distances)?;
+    tell_scratch(rt, grids, edges, distances)?;
     tell_values(rt, field, shown)
 }
 
-// The field alone.
-fn ask_field(
-    rt: &impl Print,
-    points: &[f32],
-    settings: Settings,
-    shown: usize,
-    field: &mut [f32],
-    s0: &mut [f32],
-    s1: &mut [f32],
-    s2: &mut [f32],
-    s3: &mut [f32],
-    s4: &mut [f32],
-    s5: &mut [f32],
-    s6: &mut [f32],
-    edges: &mut [u32],
-    distances: &mut [f32],
-) -> io::Result<()> {
+// The field alone. Room for grids of depth 5, full of rubbish.
+fn lend_field(rt: &impl Print, points: &[f32], settings: Settings, shown: usize) -> io::Result<()> {
+    let mut field = [0.5f32; 32768];
+    let mut grids = Grids {
+        s0: &mut [0.5f32; 32768],
+        s1: &mut [0.5f32; 32768],
+        s2: &mut [0.5f32; 32768],
+        s3: &mut [0.5f32; 32768],
+        s4: &mut [0.5f32; 32768],
+        s5: &mut [0.5f32; 32768],
+        s6: &mut [0.5f32; 32768],
+    };
+    let mut edges = [7u32; 98304];
+    let mut distances = [0.5f32; 512];
     let answer = poisson::poisson_field(
-        points, settings, field, s0, s1, s2, s3, s4, s5, s6, edges, distances,
+        points,
+        settings,
+        &mut field,
+        &mut grids,
+        &mut edges,
+        &mut distances,
     );
     let n = nodes(answer.number, settings.depth);
     report_field(
-        rt, answer, n, shown, field, s0, s1, s2, s3, s4, s5, s6, edges, distances,
-    )
-}
-
-// Room for grids of depth 5, full of rubbish.
-fn lend_field(rt: &impl Print, points: &[f32], settings: Settings, shown: usize) -> io::Result<()> {
-    let mut field = [0.5f32; 32768];
-    let mut s0 = [0.5f32; 32768];
-    let mut s1 = [0.5f32; 32768];
-    let mut s2 = [0.5f32; 32768];
-    let mut s3 = [0.5f32; 32768];
-    let mut s4 = [0.5f32; 32768];
-    let mut s5 = [0.5f32; 32768];
-    let mut s6 = [0.5f32; 32768];
-    let mut edges = [7u32; 98304];
-    let mut distances = [0.5f32; 512];
-    ask_field(
-        rt,
-        points,
-        settings,
-        shown,
-        &mut field,
-        &mut s0,
-        &mut s1,
-        &mut s2,
-        &mut s3,
-        &mut s4,
-        &mut s5,
-        &mut s6,
-        &mut edges,
-        &mut distances,
+        rt, answer, n, shown, &field, &grids, &edges, &distances,
     )
 }
 

@@ -2,13 +2,13 @@
 ghost use Rattle.std.specs.Prelude.{◌≤◌, length};
 
 use replay::Words;
-use settings::{Settings, Trimming};
+use settings::Settings;
 
-fn trimming(flag: u64, distance: f32) -> Trimming {
+fn trimming(flag: u64, distance: f32) -> Option<f32> {
     if flag == 0 {
-        return Trimming::Off;
+        return None;
     }
-    Trimming::Within(distance)
+    Some(distance)
 }
 
 // Depth and trimming's flag in decimal; smoothing, offset, distance, iterations and tolerance as patterns.

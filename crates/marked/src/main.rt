@@ -50,9 +50,9 @@ fn narrowed(rt: &impl Print) -> io::Result<()> {
 }
 
 fn main(rt: HostRuntime) -> io::Result<()> {
-    println!(rt; "P1 {:08x}", arith::pattern32(arith::root32(4.0)))?;
-    println!(rt; "P1 {:016x}", arith::pattern64(arith::root64(4.0)))?;
-    println!(rt; "P2 {:016x}", arith::pattern64(arith::root64(2.0)))?;
+    println!(rt; "P1 {:08x}", arith::pattern32(arith::root(4.0)))?;
+    println!(rt; "P1 {:016x}", arith::pattern64(arith::root(4.0)))?;
+    println!(rt; "P2 {:016x}", arith::pattern64(arith::root(2.0)))?;
     narrowed(&rt)?;
     println!(rt; "P8 {}", Kernel::radius_of(0.5))?;
     println!(rt; "P9 {}", Kernel::radius_of(6.0))?;

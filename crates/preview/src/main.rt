@@ -6,6 +6,7 @@ ghost use Rattle.sheet.specs.Laws.SheetRoom.{Roomy};
 ghost use Rattle.preview.specs.Preview.{hex_digit, in_hex, Previewed};
 
 use answers::Answer;
+use ending::Grids;
 use points::Point;
 use settings::Settings;
 use sheet::Header;
@@ -44,13 +45,15 @@ fn mesh(rt: &impl Print, points: &[f32], settings: Settings) -> io::Result<()>
 {
     let mut vertices = [0.0f32; 4032];
     let mut faces = [0u32; 5145];
-    let mut s0 = [0.0f32; 512];
-    let mut s1 = [0.0f32; 512];
-    let mut s2 = [0.0f32; 512];
-    let mut s3 = [0.0f32; 512];
-    let mut s4 = [0.0f32; 512];
-    let mut s5 = [0.0f32; 512];
-    let mut s6 = [0.0f32; 512];
+    let mut grids = Grids {
+        s0: &mut [0.0f32; 512],
+        s1: &mut [0.0f32; 512],
+        s2: &mut [0.0f32; 512],
+        s3: &mut [0.0f32; 512],
+        s4: &mut [0.0f32; 512],
+        s5: &mut [0.0f32; 512],
+        s6: &mut [0.0f32; 512],
+    };
     let mut edges = [0u32; 1536];
     let mut distances = [0.0f32; 256];
     let answer = poisson::poisson_reconstruction(
@@ -58,13 +61,7 @@ fn mesh(rt: &impl Print, points: &[f32], settings: Settings) -> io::Result<()>
         settings,
         &mut vertices,
         &mut faces,
-        &mut s0,
-        &mut s1,
-        &mut s2,
-        &mut s3,
-        &mut s4,
-        &mut s5,
-        &mut s6,
+        &mut grids,
         &mut edges,
         &mut distances,
     );

@@ -1,6 +1,6 @@
 -- Document 01, "The preview program": the sheet, in its order: depth 4 bits, trimming flag 1, count 11; then f32 smoothing, f32 offset, f32 distance only if
 -- flagged, iterations 16 bits, f64 tolerance, points. Definitions only; assumes nothing.
-use Rattle.std.specs.Prelude.{Bool, cond, not, ◌||◌, ◌&&◌, List, ℕ, ◌+◌, ◌*◌, ◌/◌, ◌%◌, ltb, leb, eqb, length, get_or, Float, Result, Ok, Err, codes}
+use Rattle.std.specs.Prelude.{Bool, cond, not, ◌||◌, ◌&&◌, List, ℕ, ◌+◌, ◌*◌, ◌/◌, ◌%◌, ltb, leb, eqb, length, get_or, Float, Option, Some, None, Result, Ok, Err, codes}
 use Rattle.std.specs.Float.Ieee.{of_bits}
 use Rattle.std.specs.Float.{binary32, binary64}
 use Rattle.points.specs.Points.{numbers_per_point}
