@@ -12,14 +12,8 @@ module _ (T : RattleType) (laws : Laws T) (copies : IsCopy T) (zero : _) (zero_c
   pub clear_from : OneOutcome (contract.clear_from.ended T zero zero_code clone clone_code) (fn.clear_from.Reads.Post T laws copies zero zero_code clone clone_code)
   clear_from κs args o o' p q = refl & same p q & refl
 
-pub clear_f32 : OneOutcome contract.clear_f32.ended fn.clear_f32.Reads.Post
-clear_f32 κs args o o' p q = refl & same p q & refl
-
-pub clear_from_u32 : OneOutcome contract.clear_from_u32.ended fn.clear_from_u32.Reads.Post
-clear_from_u32 κs args o o' p q = refl & same p q & refl
-
-pub clear_u32 : OneOutcome contract.clear_u32.ended fn.clear_u32.Reads.Post
-clear_u32 κs args o o' p q = refl & same p q & refl
+  pub clear : OneOutcome (contract.clear.ended T zero zero_code clone clone_code) (fn.clear.Reads.Post T laws copies zero zero_code clone clone_code)
+  clear κs args o o' p q = refl & same p q & refl
 
 -- ---- stride.rt
 

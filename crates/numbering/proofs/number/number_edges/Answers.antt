@@ -9,7 +9,7 @@ use Rattle.numbering.proofs.number.number_edges.Goals as goal
 pub visit_faces-requires : goal.visit_faces-requires
 visit_faces-requires c = (
   record { counts = c.requires.counts; nodes = c.requires.nodes },
-  markable_all c.args.values.now c.args.lattice c.args.iso c.requires.counts c.clear.new.numbers (ap length c.clear.ensures ∙ length-replicate _ 0 ∙ c.requires.edges),
+  markable_all c.args.values.now c.args.lattice c.args.iso c.requires.counts c.clear.new.values (ap length c.clear.ensures ∙ length-replicate _ 0 ∙ c.requires.edges),
 )
 
 pub returns : goal.returns
