@@ -78,8 +78,9 @@ fn ask(
     edges: &mut [u32],
     distances: &mut [f32],
 ) -> io::Result<()> {
-    let answer =
-        poisson::poisson_reconstruction(points, settings, vertices, faces, grids, edges, distances);
+    let answer = poisson::poisson_reconstruction(
+        points, settings, vertices, faces, grids, edges, distances,
+    );
     report(rt, answer, vertices, faces, grids, edges, distances)
 }
 
@@ -177,9 +178,7 @@ fn lend_field(rt: &impl Print, points: &[f32], settings: Settings, shown: usize)
         &mut distances,
     );
     let n = nodes(answer.number, settings.depth);
-    report_field(
-        rt, answer, n, shown, &field, &grids, &edges, &distances,
-    )
+    report_field(rt, answer, n, shown, &field, &grids, &edges, &distances)
 }
 
 // ---- the list
