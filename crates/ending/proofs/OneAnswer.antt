@@ -6,8 +6,8 @@ use Rattle.ending.proofs.SameSlices.{grids_cleared}
 use Rattle.ending.specs.contracts as contract
 use Rattle.ending.proofs as fn
 
-pub lengths : OneOutcome contract.Grids.lengths.ended fn.Grids.lengths.Reads.Post
-lengths κs args o o' p q = same p q & refl
+pub grids_lengths : OneOutcome contract.Grids.lengths.ended fn.Grids.lengths.Reads.Post
+grids_lengths κs args o o' p q = same p q & refl
 
 pub clear_scratch : OneOutcome contract.clear_scratch.ended fn.clear_scratch.Reads.Post
 clear_scratch κs args o o' p q =

@@ -1,7 +1,9 @@
 -- No second outcome fits: each public function, in the order of the sources. Assumes nothing.
-use mathlib.Core.Path.{refl}
-use Rattle.lists.specs.OneOutcome.{OneOutcome}
+use mathlib.Core.Path.{◌≡◌, refl}
+use Prim.Native.Nat.{ℕ}
+use Rattle.lists.specs.OneOutcome.{OneOutcome, OneOutcomeAmong}
 use Rattle.lists.specs.Laws.OneAnswer.{same, ◌&◌}
+use Rattle.points.specs.declared.point.Points.{Points}
 use Rattle.points.specs.contracts as contract
 use Rattle.points.proofs as fn
 
@@ -26,6 +28,14 @@ squares κs args o o' p q = same p q & refl
 
 pub point_given : OneOutcome contract.point.Point.given.ended fn.point.Point.given.Reads.Post
 point_given κs args o o' p q = same p q & refl
+
+by_lent : {a b : Points} → a.rest.ref_ptr ≡ b.rest.ref_ptr → a.rest.now ≡ b.rest.now → a ≡ b
+by_lent place now = λ i. record { rest = record { ref_ptr = place i; now = now i } }
+
+-- where the lent slice lies is no part of the answer: of those at one place, no second fits
+module _ (place : ℕ × ℕ) where
+  pub point_all : OneOutcomeAmong contract.point.Point.all.ended (λ κs r. r.rest.ref_ptr ≡ place) fn.point.Point.all.Reads.Post
+  point_all κs args o o' p q = by_lent (same p.0 q.0) (same p.1.0 q.1.0) & refl
 
 pub point_read : OneOutcome contract.point.Point.read.ended fn.point.Point.read.Reads.Post
 point_read κs args o o' p q = same p q & refl

@@ -78,6 +78,7 @@ impl Point {
 
     // All points of a slice, in the order given.
     pub fn all(points: &[f32]) -> Points<'_>
+        ensures whole { result.rest.now ≡ points.now }
         ensures left { points_left result ≡ points_of points.now }
         ensures runs { YieldsInOrder (YieldsFirst points_left) points_left }
         ensures fits { length (points_left result) < 2 ^ 64 }
