@@ -6,7 +6,7 @@
 
 mod words;
 
-ghost use Rattle.std.specs.Prelude.{◌≡◌, ◌*◌, ◌<◌, ◌≤◌, length, IfSome};
+ghost use Rattle.std.specs.Prelude.{◌≡◌, ◌*◌, ◌<◌, ◌≤◌, length, IfSome, OnErr};
 ghost use Rattle.grid.specs.Grid.{Counts};
 ghost use Rattle.cells.specs.Extraction.{count_x, count_y, count_z};
 ghost use Rattle.numbering.specs.Words.{Numberable, Counted};
@@ -87,7 +87,8 @@ fn compare_mesh(
     grid: u64,
 ) -> io::Result<bool>
     requires { Writable values.now table.now header.lattice header.iso vertices.old faces.old }
-    ensures { length words.new ≤ length words.old }
+    ensures words { length words.new ≤ length words.old }
+    ensures failed { OnErr result ((length vertices.new ≡ length vertices.old) × (length faces.new ≡ length faces.old)) }
 {
     extract::write_mesh(values, header.lattice, header.iso, table, vertices, faces);
     let in_vertices = compare_vertices(rt, words, vertices, grid)?;
@@ -154,7 +155,8 @@ fn replay_numbering(
     grid: u64,
 ) -> io::Result<bool>
     requires { Numberable values.old table.old header.lattice }
-    ensures { length words.new ≤ length words.old }
+    ensures words { length words.new ≤ length words.old }
+    ensures failed { OnErr result ((length values.new ≡ length values.old) × (length table.new ≡ length table.old)) }
 {
     read_values(words, values);
     let totals = extract::number_edges(values, header.lattice, header.iso, table);

@@ -38,6 +38,7 @@ fn wild(m: u32) -> f32 {
 fn fill<F: Fn(u32) -> f32>(values: &mut [f32], value: F)
     requires callable { F.IsAlwaysCallable value }
     requires room { length values.old ≤ 512 }
+    ensures { length values.new ≡ length values.old }
 {
     for (q, x) in values.iter_mut().enumerate() {
         *x = value(((37 * q + 11) % 101) as u32);

@@ -4,6 +4,7 @@ pub mod NanTest
 pub mod Comparing
 pub mod Symmetry
 pub mod Signs
+pub mod Casts
 pub mod Series
 pub mod Steps
 pub mod Between

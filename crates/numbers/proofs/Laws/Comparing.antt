@@ -4,7 +4,7 @@ use Rattle.std.proofs.Common.{sym, ap, ◌∙◌, subst, true≢false, mul_comm,
 use Rattle.std.specs.Bool.{beq}
 use Rattle.std.proofs.lemmas.Bool.{false≢true, eqb-false}
 use Rattle.std.proofs.Math.Nat.{mul-mul-mul_comm, eq_of_mul-eq-mul_right}
-use Rattle.std.specs.Float.Ieee.{nan, up, down, below, level, lt, eq, le, is_nan}
+use Rattle.std.specs.Float.Ieee.{nan, up, down, below, level, lt, eq, le, ne, is_nan}
 use Rattle.std.specs.Float.{inf, fin}
 use Rattle.std.specs.Float.Ieee.Exact.{HasValue}
 use Rattle.std.specs.Float.Ieee.Fits.{down_pos}
@@ -27,6 +27,15 @@ eqb_sym a b = go (a == b) (b == a) refl refl
     go false true e f = absurd (eqb-false a b e (sym (eqb-true b a f)))
 
 -- ---- a value with itself
+
+-- only a NaN differs from itself
+pub ne_itself : (x : Float) → ne x x ≡ is_nan x
+unfolding ne is_nan
+ne_itself nan = refl
+ne_itself (inf true) = refl
+ne_itself (inf false) = refl
+ne_itself (fin true m e) = rw (eq-eqb (m * up e * down e) (m * up e * down e) refl)
+ne_itself (fin false m e) = rw (eq-eqb (m * up e * down e) (m * up e * down e) refl)
 
 pub lt_itself : (x : Float) → lt x x ≡ false
 unfolding lt

@@ -1,14 +1,16 @@
 -- The binary32 pattern of what an f64 narrows to, from the f64's pattern. m is that pattern without its sign, x = m / 2 ^ 52 its exponent's field and
 -- t = m % 2 ^ 52 its digits. `round` keeps a number q of the 53 digits and drops the rest, 29 of them for a result in the normal range and more below
 -- it, and the pattern is k * 2 ^ 23 + q (`packed`): also where q carries into the exponent, or the result is an infinity. Assumes nothing.
-use Rattle.std.specs.Prelude.{◌≡◌, ℕ, suc, ◌+◌, ◌-◌, ◌*◌, ◌/◌, ◌%◌, ◌^◌, ◌<◌, ◌≤◌, Bool, true, false, cond, not, T, ◌≢◌, nat_le, to_bits, Float}
+use Rattle.std.specs.Prelude.{◌≡◌, ℕ, suc, ◌+◌, ◌-◌, ◌*◌, ◌/◌, ◌%◌, ◌^◌, ◌<◌, ◌≤◌, Bool, true, false, cond, not, T, ◌≢◌, nat_le, to_bits, refl, Float}
 use Rattle.std.proofs.Common.{sym, ap, ◌∙◌, subst, inl, inr, add_comm, le_trans, le_of_eq, lt_of_lt_of_le, lt_of_le_of_lt, eq-or-lt_of_le, mul_assoc, mul-le-mul_right, mul-lt-mul_of_pos_right, mul-pos, mod-lt, le-div_iff_mul-le, div-lt_iff_lt-mul, arith, leb→le, nltb→le, lit≤, pow-add, pow_pos, pow_mono, shl_lt}
+use Rattle.std.proofs.lemmas.Bool.{false≢true}
 use Prim.Native.Nat.{compare}
 use Rattle.std.proofs.Math.Dec.{nleb→lt}
-use Rattle.std.specs.Float.{binary32, binary64}
-use Rattle.std.specs.Float.Ieee.{size, units, round, div, fits, is_nan, of_fields, of_bits, nan_bits}
+use Rattle.std.specs.Float.{nan, inf, fin, binary32, binary64}
+use Rattle.std.specs.Float.Ieee.{size, units, round, div, eq, ne, fits, is_nan, of_fields, of_bits, nan_bits}
 use Rattle.std.specs.Float.Ieee.Digits.{size-le}
 use Rattle.std.specs.Float.Ieee.Fits.{round_is, nearest-le}
+use Rattle.std.specs.Float.Ieee.Compare.{differs_from_itself}
 use Rattle.std.specs.Float.Ieee.Bits.{to_bits-lt, of_bits-to_bits, nan_bits_is, nan_bits_above}
 use Rattle.std.specs.Float.Ieee.Nearest.{closest, closest_same, nearest-ge}
 use Rattle.numbers.specs.Arithmetic.{narrowed}
@@ -236,8 +238,18 @@ module _ (x : Float) (F : T (fits binary64 x)) (N : is_nan x ≡ false) where
     pub narrowed_no_nan : T (not (nan_bits binary32 p))
     narrowed_no_nan = subst (λ (c : Bool). T (not c)) (sym (nan_bits_is binary32 p ∙ ap is_nan narrowed_is ∙ narrowed_nan x ∙ N)) tt
 
--- ---- what a NaN gives
+-- ---- the test for a NaN, and what a NaN gives
 
-pub nan_narrows : (x : Float) → is_nan x ≡ true → div binary32 (of_bits binary32 0) (of_bits binary32 0) ≡ narrowed x
+pub not_nan : (x : Float) → eq x x ≡ true → is_nan x ≡ false
+unfolding eq is_nan
+not_nan nan h = absurd (false≢true h)
+not_nan (inf s) h = refl
+not_nan (fin s m e) h = refl
+
+pub nan_narrows : (x : Float) → eq x x ≡ false → div binary32 (of_bits binary32 0) (of_bits binary32 0) ≡ narrowed x
+unfolding ne narrowed div of_bits
+nan_narrows x h = sym (ap narrowed (differs_from_itself x (subst (λ (b : Bool). T (not b)) (sym h) tt)))
+
+pub narrows_nan : (x : Float) → is_nan x ≡ true → div binary32 (of_bits binary32 0) (of_bits binary32 0) ≡ narrowed x
 unfolding narrowed div of_bits
-nan_narrows x h = sym (ap narrowed (nan_of x h))
+narrows_nan x h = sym (ap narrowed (nan_of x h))

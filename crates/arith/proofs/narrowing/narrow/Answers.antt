@@ -1,7 +1,7 @@
 -- `arith::narrow`: what `magnitude` gives, under the sign, is the pattern of the narrowed value, by `NarrowPattern`. Assumes nothing.
 use Rattle.std.proofs.Common.{sym, ◌∙◌, arith}
 use Rattle.numbers.proofs.Laws.Comparing.{holds}
-use Rattle.numbers.proofs.Laws.NarrowPattern.{bits_lt, under_nan, fits_32, narrowed_no_nan, narrowed_is, nan_narrows}
+use Rattle.numbers.proofs.Laws.NarrowPattern.{bits_lt, under_nan, fits_32, narrowed_no_nan, narrowed_is, narrows_nan}
 use Rattle.arith.proofs.narrowing.narrow.Goals as goal
 
 pub overflow_mul-s : goal.overflow_mul-s
@@ -23,4 +23,4 @@ pub returns : goal.returns
 returns c = narrowed_is c.args.x (holds c.well_formed.0.1) (sym c.is_nan.ensures.value ∙ c.if-is_nan.false) c.magnitude.result c.magnitude.ensures
 
 pub returns-then-is_nan : goal.returns-then-is_nan
-returns-then-is_nan c = nan_narrows c.args.x (sym c.is_nan.ensures.value ∙ c.if-is_nan.true)
+returns-then-is_nan c = narrows_nan c.args.x (sym c.is_nan.ensures.value ∙ c.if-is_nan.true)
