@@ -2,7 +2,7 @@
 use Rattle.std.specs.Prelude.{◌≡◌, Ok, Err, ⊤}
 use Rattle.std.proofs.Common.{sym, ap, ◌∙◌}
 use Rattle.answers.specs.declared.Refusal.{Refusal}
-use Rattle.answers.specs.Answers.{Verdict, Pass, ◌then◌}
+use Rattle.answers.specs.Answers.{Verdict, ◌then◌}
 
 -- ---- checks in a row: v is what was answered where p is right
 

@@ -1,4 +1,5 @@
 -- The laws that the proofs of this crate share.
+pub mod Offset
 pub mod Moved
 pub mod Terms
 pub mod Runs

@@ -8,13 +8,21 @@ ghost use Rattle.blur.specs.Words.{radius_in, IsKernel, blur_by, plus_times, acr
 
 use grid::{Grid, Node};
 
-// The place moved by the offset t - radius, or none where that leaves the side.
+// The place moved by the offset t - radius, or none outside: an i32 sum, tested at both grid sides before the cast.
 fn moved(place: usize, t: usize, radius: usize, n: usize) -> Option<usize>
-    requires { (place ≤ 256) × (t ≤ 36) }
+    requires { (place ≤ 256) × (t ≤ 36) × (radius ≤ 18) × (n ≤ 256) }
     ensures { result ≡ moved_to n radius place t }
 {
-    let at = (place + t).checked_sub(radius)?;
-    if at < n { Some(at) } else { None }
+    let offset = t as i32 - radius as i32;
+    let at = place as i32 + offset;
+    if at < 0 {
+        return None;
+    }
+    if at < n as i32 {
+        Some(at as usize)
+    } else {
+        None
+    }
 }
 
 // x[k] += w * p[k].
@@ -67,7 +75,7 @@ fn blur_across(
 // One offset's terms, added to the sums of a row that is a line itself, where its first node's place is outside: the run of nodes inside ends at the last.
 #[tactic(auto, using(crate::proofs::Moved::inside_moved))]
 fn add_to_end(out: &mut [f32], v: &[f32], t: usize, radius: usize, w: f32)
-    requires { Line out.old v.now × (t ≤ 36) × FirstOutside (length out.old) radius t }
+    requires { Line out.old v.now × (t ≤ 36) × (radius ≤ 18) × FirstOutside (length out.old) radius t }
     ensures { out.new ≡ tabulate (length out.old)
         (λ k. with_term v.now (λ p. p) w (moved_to (length out.old) radius k t) (at out.old k)) }
 {
@@ -83,7 +91,7 @@ fn add_to_end(out: &mut [f32], v: &[f32], t: usize, radius: usize, w: f32)
 // the last.
 #[tactic(auto, using(crate::proofs::Moved::inside_moved))]
 fn add_along(out: &mut [f32], v: &[f32], t: usize, radius: usize, w: f32)
-    requires { Line out.old v.now × (t ≤ 36) }
+    requires { Line out.old v.now × (t ≤ 36) × (radius ≤ 18) }
     ensures { out.new ≡ tabulate (length out.old)
         (λ k. with_term v.now (λ p. p) w (moved_to (length out.old) radius k t) (at out.old k)) }
 {

@@ -2,13 +2,13 @@
 ghost use Rattle.std.specs.Prelude.{◌≤◌, length};
 
 use replay::Words;
-use settings::Settings;
+use settings::{Settings, Trimming};
 
-fn trimming(flag: u64, distance: f32) -> Option<f32> {
+fn trimming(flag: u64, distance: f32) -> Trimming {
     if flag == 0 {
-        return None;
+        return Trimming::Off;
     }
-    Some(distance)
+    Trimming::Within(distance)
 }
 
 // Depth and trimming's flag in decimal; smoothing, offset, distance, iterations and tolerance as patterns.

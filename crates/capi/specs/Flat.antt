@@ -1,6 +1,8 @@
 -- Settings and answers as numbers and small arrays, as they cross to other languages. Definitions only; assumes nothing.
-use Rattle.std.specs.Prelude.{◌≡◌, cond, List, [], ◌∷◌, ℕ, eqb, Float, Option, Some, None}
+use Rattle.std.specs.Prelude.{◌≡◌, cond, List, [], ◌∷◌, ℕ, eqb, Float}
 use Rattle.lists.specs.Lists.{at, zero32}
+use Rattle.settings.specs.declared.Trimming.{Trimming}
+use Rattle.settings.specs.declared.Trimming.TheVariants.{Off, Within}
 use Rattle.settings.specs.declared.Settings.{Settings}
 use Rattle.answers.specs.declared.Answer.{Answer}
 use Rattle.settings.specs.declared.Lengths.{Lengths}
@@ -14,8 +16,8 @@ use Rattle.poisson.specs.Outcome.{Done}
 -- ---- in
 
 -- 0 is off, all else is within the distance
-abbrev pub trimming_from : (trimming : ℕ) (distance : Float) → Option Float
-trimming_from trimming distance = cond (eqb trimming 0) None (Some distance)
+abbrev pub trimming_from : (trimming : ℕ) (distance : Float) → Trimming
+trimming_from trimming distance = cond (eqb trimming 0) Off (Within distance)
 
 abbrev pub settings_from : (depth : ℕ) (smoothing isoOffset : Float) (trimming : ℕ) (distance : Float) (iterations : ℕ) (tolerance : Float) → Settings
 settings_from depth smoothing isoOffset trimming distance iterations tolerance =

@@ -10,16 +10,16 @@ ghost use Rattle.capi.specs.Flat.{trimming_from, settings_from, counts_of, value
 
 use answers::Answer;
 use ending::Grids;
-use settings::Settings;
+use settings::{Settings, Trimming};
 
 // 0 is off, all else is within the distance.
-fn trimming_from(trimming: u32, distance: f32) -> Option<f32>
+fn trimming_from(trimming: u32, distance: f32) -> Trimming
     ensures { result ≡ trimming_from trimming distance }
 {
     if trimming == 0 {
-        return None;
+        return Trimming::Off;
     }
-    Some(distance)
+    Trimming::Within(distance)
 }
 
 fn settings_from(

@@ -1,7 +1,6 @@
 -- Document 01, "How answers are marked", names cheats: refusing all, one stock mesh, a call that does nothing, invented V or F. Each is shut out by the
 -- contract of the whole call: here is what it says against each, of a call that was lent `before`, answered r and left `after`. By demands 2 and 3. Assumes
 -- nothing.
-use Rattle.std.specs.Prelude.{None}
 use mathlib.Core.Path.{◌≡◌, sym, ap, ◌∙◌}
 use mathlib.Core.Bool.{Bool}
 use mathlib.Core.List.{List, [], ◌∷◌, ◌++◌}
@@ -17,6 +16,7 @@ use Rattle.closed.specs.Grid.{cell_case, crossed_count}
 use Rattle.cells.specs.Extraction.{below_at}
 use Rattle.points.specs.Points.{usables}
 use Rattle.settings.specs.declared.Settings.{Settings}
+use Rattle.settings.specs.declared.Trimming.TheVariants.{Off}
 use Rattle.answers.specs.declared.Answer.{Answer}
 use Rattle.answers.specs.Answers.{Pass, number_of}
 use Rattle.ending.specs.Slices.{Slices}
@@ -34,7 +34,7 @@ module _ (xs : List Float) (st : Settings) (before : Slices) (r : Answer) (after
 
   -- ---- invented V or F: without trimming V is the number of crossed edges, and F the sum of the row lengths
 
-  module _ (zero_number : r.number ≡ 0) (off : st.trimming ≡ None) where
+  module _ (zero_number : r.number ≡ 0) (off : st.trimming ≡ Off) where
     pub v_told : r.vertices
         ≡ crossed_count (side_nodes st) (side_nodes st) (side_nodes st) (below_at (field_for (usables xs) st) (side_nodes st) (side_nodes st) r.level)
     v_told = (closed_call xs st before r after met zero_number off).closed.vertex_count

@@ -1,7 +1,6 @@
 -- Demand 3 of the mesh that is made of usable points without trimming, even where the field holds infinities or NaN: it is the extracted one, oriented;
 -- extraction's claims hold at the field and the level, orientation keeps them, and the outer nodes are all on one side by the solver's law of the boundary.
 -- Assumes nothing.
-use Rattle.std.specs.Prelude.{Option, None}
 use mathlib.Core.Path.{◌≡◌, sym, ap, ◌∙◌, subst}
 use mathlib.Core.Bool.{Bool}
 use mathlib.Core.List.{List}
@@ -27,12 +26,14 @@ use Rattle.trim.specs.Trim.{trimmed_vertices, trimmed_faces}
 use Rattle.points.specs.declared.point.Point.{Point}
 use Rattle.points.specs.Points.{usables}
 use Rattle.settings.specs.declared.Settings.{Settings}
+use Rattle.settings.specs.declared.Trimming.{Trimming}
+use Rattle.settings.specs.declared.Trimming.TheVariants.{Off}
 use Rattle.scan.specs.Reconstruction.{problem_for, grid_for, lattice_for, field_for, level_for, whole_vertices, whole_faces, kept_vertices, kept_faces, accepted_answer}
 use Rattle.scan.specs.Laws.MeshRoom.{length_vertices, count_vertices, extracted_meshed}
 use Rattle.demands.specs.Demand3.{side_nodes, Closed}
 use Rattle.demands.proofs.Demand2.{made}
 
-module _ (ps : List Point) (st : Settings) (off : st.trimming ≡ None) (deep : 1 ≤ st.depth) (shallow : st.depth ≤ 8) where
+module _ (ps : List Point) (st : Settings) (off : st.trimming ≡ Off) (deep : 1 ≤ st.depth) (shallow : st.depth ≤ 8) where
   abbrev field : List Float
   field = field_for ps st
 
@@ -52,11 +53,11 @@ module _ (ps : List Point) (st : Settings) (off : st.trimming ≡ None) (deep : 
   -- without trimming the whole mesh is returned
   kept_vertices_lem : kept_vertices ps st ≡ extracted_vertices field (lattice_for ps st) level
   unfolding kept_vertices trimmed_vertices whole_vertices
-  kept_vertices_lem = ap (λ (t : Option Float). trimmed_vertices t ps (whole_vertices ps st) (whole_faces ps st)) off
+  kept_vertices_lem = ap (λ (t : Trimming). trimmed_vertices t ps (whole_vertices ps st) (whole_faces ps st)) off
 
   kept_faces_lem : kept_faces ps st ≡ oriented_faces (grid_for ps st) field (whole_vertices ps st) (extracted_faces field (lattice_for ps st) level)
   unfolding kept_faces trimmed_faces whole_faces
-  kept_faces_lem = ap (λ (t : Option Float). trimmed_faces t ps (whole_vertices ps st) (whole_faces ps st)) off
+  kept_faces_lem = ap (λ (t : Trimming). trimmed_faces t ps (whole_vertices ps st) (whole_faces ps st)) off
 
   -- the outer nodes are all on one side
   one_side : Outer n n n below (lt (boundary_alike (problem_for ps st) ps st.depth).value level)
@@ -100,7 +101,7 @@ module _ (ps : List Point) (st : Settings) (off : st.trimming ≡ None) (deep : 
 
 -- ---- what is answered and left
 
-pub closed_made : (xs : List Float) (st : Settings) → st.trimming ≡ None → 1 ≤ st.depth → st.depth ≤ 8 → Closed xs st (made (usables xs) st)
+pub closed_made : (xs : List Float) (st : Settings) → st.trimming ≡ Off → 1 ≤ st.depth → st.depth ≤ 8 → Closed xs st (made (usables xs) st)
 unfolding accepted_answer grid_for grid_of lattice_of
 closed_made xs st off deep shallow =
     let ps = usables xs in

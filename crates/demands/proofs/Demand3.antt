@@ -1,6 +1,5 @@
 -- Demand 3 of what a call leaves: an accepted call without trimming leaves the mesh that is made of its usable points at the front of its slices, as long as
 -- the answer tells, and that mesh is closed. Assumes nothing.
-use Rattle.std.specs.Prelude.{None}
 use mathlib.Core.Path.{◌≡◌, sym, ap, ◌∙◌, subst}
 use mathlib.Core.List.{List}
 use Prim.Native.Nat.{ℕ, ◌*◌, ◌≤◌, ◌<◌}
@@ -15,6 +14,7 @@ use Rattle.closed.specs.Grid.{node}
 use Rattle.closed.proofs.Laws.Crossings.{node_lt}
 use Rattle.points.specs.Points.{usables}
 use Rattle.settings.specs.declared.Settings.{Settings}
+use Rattle.settings.specs.declared.Trimming.TheVariants.{Off}
 use Rattle.answers.specs.declared.Answer.{Answer}
 use Rattle.settings.specs.Refusals.{early_verdict}
 use Rattle.answers.specs.Laws.InARow.{both_pass}
@@ -35,7 +35,7 @@ node_in_field xs st i j k hi hj hk =
     (node_lt (side_nodes st) (side_nodes st) (side_nodes st) i j k hi hj hk)
 
 module _ (xs : List Float) (st : Settings) (before : Slices) (r : Answer) (after : Slices) (met : Meets xs st before r after)
-    (zero_number : r.number ≡ 0) (off : st.trimming ≡ None) where
+    (zero_number : r.number ≡ 0) (off : st.trimming ≡ Off) where
   fits : ChecksPassed xs st (lengths_of before)
   unfolding verdict_of
   fits = ready xs st (lengths_of before) (both_pass (early_verdict xs st (lengths_of before)) _ (passes xs st before r after met zero_number)).0

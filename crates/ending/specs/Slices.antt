@@ -1,6 +1,6 @@
 -- Document 01, "What crosses the counter": all that a call is lent to write in. Each slice is the list of its elements, before or after the call.
 -- Definitions only; assumes nothing.
-use Rattle.std.specs.Prelude.{◌≡◌, ◌++◌, List, [], ◌∷◌, ℕ, drop, length, Float}
+use Rattle.std.specs.Prelude.{◌≡◌, List, [], ◌∷◌, ℕ, length, Float}
 use Rattle.ending.specs.declared.Grids.{Grids}
 
 -- "Scratch, with N = 8^depth: seven f32 slices of N, a u32 slice of 3N, an f32 slice of one per given point"

@@ -1,5 +1,5 @@
 // Document 01, "What crosses the counter": "unused result elements and all scratch are zero on return". The seven scratch slices over nodes as one value, and
-// the one ending of every call, refused or accepted: a refusal has no mesh, so all of its result elements are unused. The Rust has none: its vectors are dropped.
+// the one ending of every call, refused or accepted: a refusal has no mesh, so all of its result elements are unused. The Rust drops its vectors.
 #![tactic(auto)]
 
 ghost use Rattle.std.specs.Prelude.{◌≡◌};

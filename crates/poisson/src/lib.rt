@@ -3,7 +3,7 @@
 // The caller checks nothing first": nothing is required. The crate `field_call` has the call that stops at the level.
 #![tactic(auto)]
 
-ghost use Rattle.std.specs.Prelude.{◌≡◌, ◌++◌, ◌*◌, ◌^◌, ◌<◌, ◌≤◌, take, drop, length};
+ghost use Rattle.std.specs.Prelude.{◌≡◌, ◌*◌, ◌^◌, ◌<◌, ◌≤◌, take, length};
 ghost use Rattle.grid.specs.Grid.{Sides, all_nodes, lattice_of};
 ghost use Rattle.numbering.specs.Words.{Counted};
 ghost use Rattle.points.specs.Points.{usables};

@@ -110,7 +110,7 @@ fn level_of(points: &[f32], settings: Settings, g: Grid, grids: &Grids) -> f32
     surface::level(g, &grids.s0[..n], points, settings.iso_offset)
 }
 
-// The mesh of the field at the front of the first grid, before any trimming: extracted, then oriented. The edge table's first entries are the numbers of its edges.
+// The mesh of the field at the front of the first grid, before any trimming: extracted, then oriented. The edge table begins with the numbers of its edges.
 fn make_whole(
     g: Grid,
     level: f32,

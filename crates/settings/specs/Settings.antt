@@ -1,8 +1,8 @@
 -- Document 01, "What crosses the counter": the settings that a call has where none are given. Definitions only; assumes nothing.
-use Rattle.std.specs.Prelude.{None}
 use Rattle.numbers.specs.Constants.{one32, ten_thousandth64}
 use Rattle.lists.specs.Lists.{zero32}
 use Rattle.settings.specs.declared.Settings.{Settings}
+use Rattle.settings.specs.declared.Trimming.TheVariants.{Off}
 
 -- 7, 1.0, 0.0, off, 1000, 1e-4
 abbrev pub defaults : Settings
@@ -11,7 +11,7 @@ defaults =
       depth = 7;
       smoothing = one32;
       iso_offset = zero32;
-      trimming = None;
+      trimming = Off;
       max_iterations = 1000;
       tolerance = ten_thousandth64;
     }

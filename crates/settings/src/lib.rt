@@ -1,5 +1,5 @@
 // Document 01, "What crosses the counter" and "Numbers of refusal": what a caller gives beside the points and gets beside the mesh. Beside `PoissonConfig`
-// and the errors of the Rust's poisson.rs, whose strings are numbers here. `checks` says who is refused; the refusals and their numbers are in the crate `answers`.
+// and the errors of the Rust's poisson.rs, whose strings are numbers here. `checks` says who is refused; the refusals and their numbers are in `answers`.
 #![tactic(auto)]
 
 mod checks;
@@ -9,13 +9,20 @@ ghost use Rattle.settings.specs.Settings.{defaults};
 
 pub use checks::{early, extent_verdict, mesh_verdict, nodes, room_verdict, usable_verdict};
 
-// `trimming` is none where it is off, and else within a distance.
+// "Trimming is either off or within a distance." The Rust has an `Option<f32>`; here the two cases have the names of the rule.
+#[derive(Clone, Copy)]
+pub enum Trimming {
+    Off,
+    Within(f32),
+}
+
+// The settings record holds this choice whole.
 #[derive(Clone, Copy)]
 pub struct Settings {
     pub depth: u32,
     pub smoothing: f32,
     pub iso_offset: f32,
-    pub trimming: Option<f32>,
+    pub trimming: Trimming,
     pub max_iterations: usize,
     pub tolerance: f64,
 }
@@ -29,7 +36,7 @@ impl Settings {
             depth: 7,
             smoothing: 1.0,
             iso_offset: 0.0,
-            trimming: None,
+            trimming: Trimming::Off,
             max_iterations: 1000,
             tolerance: 1e-4,
         }

@@ -1,8 +1,10 @@
 -- Document 01, "The preview program": the sheet, in its order: depth 4 bits, trimming flag 1, count 11; then f32 smoothing, f32 offset, f32 distance only if
 -- flagged, iterations 16 bits, f64 tolerance, points. Definitions only; assumes nothing.
-use Rattle.std.specs.Prelude.{Bool, cond, not, ◌||◌, ◌&&◌, List, ℕ, ◌+◌, ◌*◌, ◌/◌, ◌%◌, ltb, leb, eqb, length, get_or, Float, Option, Some, None, Result, Ok, Err, codes}
+use Rattle.std.specs.Prelude.{Bool, cond, not, ◌||◌, ◌&&◌, List, ℕ, ◌+◌, ◌*◌, ◌/◌, ◌%◌, ltb, leb, eqb, length, get_or, Float, Result, Ok, Err, codes}
 use Rattle.std.specs.Float.Ieee.{of_bits}
 use Rattle.std.specs.Float.{binary32, binary64}
+use Rattle.settings.specs.declared.Trimming.{Trimming}
+use Rattle.settings.specs.declared.Trimming.TheVariants.{Off, Within}
 use Rattle.points.specs.Points.{numbers_per_point}
 use Rattle.sheet.specs.declared.Header.{Header}
 use Rattle.sheet.specs.declared.SheetError.{SheetError}
@@ -39,8 +41,8 @@ count_of word = word % 2048
 
 -- ---- the header: 2 bytes, smoothing 4, offset 4, distance 4 if flagged, iterations 2, tolerance 8
 
-abbrev pub trimming_of : (s : List ℕ) (word : ℕ) → Option Float
-trimming_of s word = cond (eqb (flag_of word) 0) None (Some (f32_at s 10))
+abbrev pub trimming_of : (s : List ℕ) (word : ℕ) → Trimming
+trimming_of s word = cond (eqb (flag_of word) 0) Off (Within (f32_at s 10))
 
 -- where the points start
 abbrev pub start_of : (word : ℕ) → ℕ

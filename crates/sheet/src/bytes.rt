@@ -1,5 +1,5 @@
 // Numbers and floats of a sheet, most significant byte first.
-ghost use Rattle.std.specs.Prelude.{◌≡◌, ◌+◌, ◌*◌, ◌<◌, ◌≤◌, length};
+ghost use Rattle.std.specs.Prelude.{◌≡◌, ◌+◌, ◌*◌, ◌≤◌, length};
 ghost use Rattle.lists.specs.Lists.{tabulate};
 ghost use Rattle.sheet.specs.Sheet.{be16, be32, be64, f32_at, f64_at, float_at};
 

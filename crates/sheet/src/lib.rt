@@ -10,7 +10,7 @@ ghost use Rattle.sheet.specs.Sheet.{flag_of, trimming_of, header_of, sheet_of, s
 pub use bytes::read_floats;
 use bytes::{read_f32, read_f64, read16};
 use points::Point;
-use settings::Settings;
+use settings::{Settings, Trimming};
 use std::fmt;
 
 // What stands before the points, how many there are, and where they start.
@@ -42,14 +42,14 @@ impl fmt::Display for SheetError {
 }
 
 // "f32 distance only if flagged."
-fn read_trimming(sheet: &[u8], word: u16, flag: u16) -> Option<f32>
+fn read_trimming(sheet: &[u8], word: u16, flag: u16) -> Trimming
     requires { (flag ≡ flag_of word) × (14 ≤ length sheet.now) }
     ensures { result ≡ trimming_of sheet.now word }
 {
     if flag == 0 {
-        return None;
+        return Trimming::Off;
     }
-    Some(read_f32(sheet, 10))
+    Trimming::Within(read_f32(sheet, 10))
 }
 
 // The header of a sheet whose first 16 bits are the word.

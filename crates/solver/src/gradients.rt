@@ -29,8 +29,8 @@ fn update(
     rr_new
 }
 
-// One turn. It answers the new rr, or none where no later turn changes x. A NaN stops neither test. But where alpha is NaN, the update makes x, r and p NaN at all nodes, and no later turn changes anything: so the
-// loop may be left then, and not before.
+// One turn. It answers the new rr, or none where no later turn changes x. A NaN stops neither test. But where alpha is NaN, the update makes x, r and p NaN
+// at all nodes, and no later turn changes anything: so the loop may be left then, and not before.
 fn one_turn(
     g: Grid,
     x: &mut [f32],

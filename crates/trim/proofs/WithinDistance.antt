@@ -1,6 +1,5 @@
 -- The passes together are the trim within a distance: the front of the faces is the mesh of the kept faces, the front of the vertices is the places of
 -- those that they use, and zeros stand past both. Assumes nothing.
-use Rattle.std.specs.Prelude.{Some, None}
 use mathlib.Core.Path.{◌≡◌, sym, ap, ◌∙◌}
 use mathlib.Core.Logic.{⊎_elim}
 use mathlib.Core.List.{List, [], ◌∷◌, ◌++◌, append-nil}
@@ -17,6 +16,7 @@ use Rattle.closed.proofs.Laws.Mesh.{mesh_length}
 use Rattle.closed.proofs.Laws.Turning.{length_corners, length_faces, corners_faces}
 use Rattle.points.specs.declared.point.Point.{Point}
 use Rattle.meshes.specs.FlatMesh.{vertex_count, face_count, Meshed}
+use Rattle.settings.specs.declared.Trimming.TheVariants.{Off, Within}
 use Rattle.meshes.specs.declared.MeshSize.{MeshSize}
 use Rattle.trim.specs.Trim.{near, near_faces, places_of, trimmed_faces, trimmed_vertices, Trimmed}
 use Rattle.trim.specs.Words.{Slots, Front}
@@ -70,7 +70,7 @@ module _ (ps : List Point) (vertices : List Float) (distance : Float) (numbers :
       pub trimmed_within : (y : List Float) (vertices' : List Float) (numbers' : List ℕ) → length y ≡ length vertices → take (3 * size.vertices) y ≡ places_of vertices (used kept)
           → vertices' ≡ take (3 * size.vertices) y ++ zeros32 (length y - 3 * size.vertices)
           → numbers' ≡ take (3 * size.faces) l ++ zeros_u (length l - 3 * size.faces)
-          → Trimmed (Some distance) ps vertices numbers size vertices' numbers'
+          → Trimmed (Within distance) ps vertices numbers size vertices' numbers'
       unfolding trimmed_vertices trimmed_faces
       trimmed_within y vertices' numbers' same moved cleared cleared' =
           let places : length (places_of vertices (used kept)) ≡ 3 * size.vertices = length_places vertices (used kept) ∙ ap (λ (n : ℕ). 3 * n) (sym front.slots.total) in
@@ -91,7 +91,7 @@ module _ {A : Type 0} where
   padded_whole z l = let e : length l - length l ≡ 0 = omega arith in sym (ap (λ (n : ℕ). l ++ replicate n z) e ∙ append-nil l)
 
 pub trimmed_off : {ps : List Point} {vertices : List Float} {numbers : List ℕ} → Meshed vertices numbers
-    → Trimmed None ps vertices numbers (record { vertices = length vertices / 3; faces = length numbers / 3 }) vertices numbers
+    → Trimmed Off ps vertices numbers (record { vertices = length vertices / 3; faces = length numbers / 3 }) vertices numbers
 unfolding trimmed_vertices trimmed_faces
 trimmed_off {ps} {vertices} {numbers} m =
     record {

@@ -1,5 +1,5 @@
 -- Document 01, "Box, level, orientation, trim": the mesh after trimming, which comes after the turning. Definitions only; assumes nothing.
-use Rattle.std.specs.Prelude.{◌≡◌, Bool, List, [], ◌∷◌, ℕ, ◌*◌, ◌^◌, ◌≤◌, ◌<◌, length, Float, Option, Some, None}
+use Rattle.std.specs.Prelude.{◌≡◌, Bool, List, [], ◌∷◌, ℕ, ◌*◌, ◌^◌, ◌≤◌, ◌<◌, length, Float}
 use Rattle.std.specs.Float.{binary32}
 use Rattle.std.specs.Float.Ieee.{mul}
 use Rattle.lists.specs.Lists.{zero32, padded}
@@ -10,6 +10,8 @@ use Rattle.points.specs.declared.point.Point.{Point}
 use Rattle.search.specs.Search.{within_of}
 use Rattle.meshes.specs.FlatMesh.{vertex_count, coordinate}
 use Rattle.orientation.specs.Orientation.{centre_of}
+use Rattle.settings.specs.declared.Trimming.{Trimming}
+use Rattle.settings.specs.declared.Trimming.TheVariants.{Off, Within}
 use Rattle.meshes.specs.declared.MeshSize.{MeshSize}
 
 -- ---- which faces are kept
@@ -31,17 +33,17 @@ places_of vertices (v ∷ l) = coordinate vertices v 0 ∷ coordinate vertices v
 
 -- ---- trimming is either off or within a distance
 
-unfoldable pub trimmed_faces : Option Float → List Point → List Float → List Face → List Face
-trimmed_faces None ps vertices fs = fs
-trimmed_faces (Some distance) ps vertices fs = mesh (near_faces ps vertices distance fs)
+unfoldable pub trimmed_faces : Trimming → List Point → List Float → List Face → List Face
+trimmed_faces Off ps vertices fs = fs
+trimmed_faces (Within distance) ps vertices fs = mesh (near_faces ps vertices distance fs)
 
-unfoldable pub trimmed_vertices : Option Float → List Point → List Float → List Face → List Float
-trimmed_vertices None ps vertices fs = vertices
-trimmed_vertices (Some distance) ps vertices fs = places_of vertices (used (near_faces ps vertices distance fs))
+unfoldable pub trimmed_vertices : Trimming → List Point → List Float → List Face → List Float
+trimmed_vertices Off ps vertices fs = vertices
+trimmed_vertices (Within distance) ps vertices fs = places_of vertices (used (near_faces ps vertices distance fs))
 
 -- ---- what a call leaves: the mesh at the front of its slices, zeros past it, and its size
 
-pub record Trimmed (trimming : Option Float) (ps : List Point) (vertices : List Float) (numbers : List ℕ) (size : MeshSize) (vertices' : List Float) (numbers' : List ℕ) : Type 0 where
+pub record Trimmed (trimming : Trimming) (ps : List Point) (vertices : List Float) (numbers : List ℕ) (size : MeshSize) (vertices' : List Float) (numbers' : List ℕ) : Type 0 where
   pub vertex_count : length (trimmed_vertices trimming ps vertices (faces numbers)) ≡ 3 * size.vertices
   pub face_count : length (trimmed_faces trimming ps vertices (faces numbers)) ≡ size.faces
   pub places : vertices' ≡ padded zero32 (length vertices) (trimmed_vertices trimming ps vertices (faces numbers))

@@ -7,15 +7,17 @@ mod keeping;
 mod moving;
 mod renumbering;
 
-ghost use Rattle.std.specs.Prelude.{◌≡◌, ◌^◌, ◌<◌, ◌≤◌, length, Some};
+ghost use Rattle.std.specs.Prelude.{◌≡◌, ◌^◌, ◌<◌, ◌≤◌, length};
 ghost use Rattle.lists.specs.Lists.{zeros32, zeros_u};
 ghost use Rattle.closed.specs.Faces as Flat;
 ghost use Rattle.points.specs.Points.{usables};
 ghost use Rattle.meshes.specs.FlatMesh.{vertex_count, Meshed};
+ghost use Rattle.settings.specs.declared.Trimming.TheVariants.{Within};
 ghost use Rattle.trim.specs.Trim.{near_faces, Trimmed, TrimRoom};
 ghost use Rattle.trim.specs.Words.{Front};
 
 use meshes::MeshSize;
+use settings::Trimming;
 
 // The faces near a usable point move to the front and are renumbered; the table has the new number of each vertex that they use.
 fn keep_near(
@@ -52,7 +54,7 @@ fn trim_within(
 ) -> MeshSize
     requires meshed { Meshed vertices.old faces.old }
     requires trim_room { TrimRoom vertices.old faces.old table.old a.old b.old c.old }
-    ensures { Trimmed (Some distance) (usables points.now) vertices.old faces.old result vertices.new
+    ensures { Trimmed (Within distance) (usables points.now) vertices.old faces.old result vertices.new
         faces.new }
 {
     let size = keep_near(distance, points, vertices, faces, table);
@@ -66,7 +68,7 @@ fn trim_within(
 
 // The choice taken apart: off keeps every face and vertex as it is.
 fn trim_as_chosen(
-    trimming: Option<f32>,
+    trimming: Trimming,
     points: &[f32],
     vertices: &mut [f32],
     faces: &mut [u32],
@@ -81,17 +83,19 @@ fn trim_as_chosen(
         faces.new }
 {
     match trimming {
-        None => MeshSize {
+        Trimming::Off => MeshSize {
             vertices: vertices.len() / 3,
             faces: faces.len() / 3,
         },
-        Some(distance) => { trim_within(distance, points, vertices, faces, table, a, b, c) }
+        Trimming::Within(distance) => {
+            trim_within(distance, points, vertices, faces, table, a, b, c)
+        }
     }
 }
 
 // The mesh after trimming stands at the front of its slices, with zeros past it; the table and the three lent slices are zero.
 pub fn trim(
-    trimming: Option<f32>,
+    trimming: Trimming,
     points: &[f32],
     vertices: &mut [f32],
     faces: &mut [u32],

@@ -1,5 +1,5 @@
 -- Each stage is given what it asks by the one before, in fronts of just N elements, and what is left is put together by PutTogether.
-use Rattle.std.proofs.Common.{ℕ, List, Float, refl, sym, ap, ap₂, ◌∙◌, ◌++◌, take, drop, length, arith}
+use Rattle.std.proofs.Common.{ℕ, List, Float, refl, sym, ap, ap₂, ◌∙◌, ◌++◌, drop, arith}
 use Rattle.std.proofs.lemmas.List.{take_at, length-append}
 use Rattle.lists.specs.Lists.{zeros32}
 use Rattle.points.specs.Points.{usables}

@@ -1,5 +1,5 @@
 -- A tetrahedron, trimmed by computation: one face is near the point, its vertices are renumbered at first use, and the limit counts as near. Assumes nothing.
-use Rattle.std.specs.Prelude.{◌≡◌, refl, false, List, [], ◌∷◌, pos, Float, Some, None}
+use Rattle.std.specs.Prelude.{◌≡◌, refl, false, List, [], ◌∷◌, pos, Float}
 use Rattle.std.specs.Float.{nan, fin}
 use Rattle.std.specs.Float.Ieee.{of_bits, neg, add, sub, mul, div, le}
 use Rattle.closed.specs.Lists.{member, keep}
@@ -7,6 +7,7 @@ use Rattle.closed.specs.Faces.{Face, face}
 use Rattle.closed.specs.Numbering.{note, grow, dedup, index_of, used, mesh}
 use Rattle.points.specs.declared.point.Point.{Point}
 use Rattle.search.specs.Search.{square_of, any_of, within_of}
+use Rattle.settings.specs.declared.Trimming.TheVariants.{Off, Within}
 use Rattle.orientation.specs.Orientation.{centre_of}
 use Rattle.trim.specs.Trim.{near_faces, places_of, trimmed_faces, trimmed_vertices}
 
@@ -31,11 +32,11 @@ abbrev points : List Point
 points = record { at = I ∷ I ∷ fin false 1 (pos 1) ∷ []; normal = O ∷ O ∷ I ∷ [] } ∷ []
 
 pub one_face :
-    (trimmed_faces (Some I) points vertices tetrahedron ≡ face 0 1 2 ∷ [])
-    × (trimmed_vertices (Some I) points vertices tetrahedron ≡ O ∷ O ∷ III ∷ III ∷ O ∷ O ∷ O ∷ III ∷ O ∷ [])
-    × (trimmed_faces (Some (neg I)) points vertices tetrahedron ≡ face 0 1 2 ∷ [])
-    × (trimmed_faces (Some nan) points vertices tetrahedron ≡ [])
-    × (trimmed_vertices (Some nan) points vertices tetrahedron ≡ [])
-    × (trimmed_faces None points vertices tetrahedron ≡ tetrahedron)
+    (trimmed_faces (Within I) points vertices tetrahedron ≡ face 0 1 2 ∷ [])
+    × (trimmed_vertices (Within I) points vertices tetrahedron ≡ O ∷ O ∷ III ∷ III ∷ O ∷ O ∷ O ∷ III ∷ O ∷ [])
+    × (trimmed_faces (Within (neg I)) points vertices tetrahedron ≡ face 0 1 2 ∷ [])
+    × (trimmed_faces (Within nan) points vertices tetrahedron ≡ [])
+    × (trimmed_vertices (Within nan) points vertices tetrahedron ≡ [])
+    × (trimmed_faces Off points vertices tetrahedron ≡ tetrahedron)
 unfolding trimmed_faces trimmed_vertices near_faces keep within_of any_of square_of centre_of places_of mesh used dedup grow note member index_of of_bits neg add sub mul div le
 one_face = (refl, refl, refl, refl, refl, refl)
