@@ -15,7 +15,7 @@ use Rattle.laplacian.specs.Laplacian.{applied}
 use Rattle.numbers.specs.Constants.{zero64}
 use Rattle.vectors.specs.Vectors.{dotted, plus_at, minus_at, less_at}
 use Rattle.solver.specs.Solver.{State, started, pap_of, stops, alpha_of, next, steps, norm_of, conjugate}
-use Rattle.solver.specs.Words.{Updated}
+use Rattle.solver.specs.Runs.{Updated}
 use Rattle.solver.proofs.NanRun.{nan_next, nan_steps}
 
 -- ---- that there is a node
@@ -37,48 +37,51 @@ module _ (g : Grid) (limit : Float) (k : ℕ) (s : State) where
   unfolding steps
   steps_on e = ap (λ (b : Bool). cond b s (steps g limit k (next g s))) e
 
--- ---- a turn from the state of x, r, p and rr. `low` is what the first test compares, ap is A p and pap what the second compares
+-- ---- a turn from s. `low` is what the first test compares, ap is A p and pap what the second compares
 
-module _ (g : Grid) (limit : Float) (x r p : List Float) (rr : Float) where
-  abbrev from : State
-  from = record { x = x; r = r; p = p; rr = rr }
-
+module _ (g : Grid) (limit : Float) (s : State) where
   -- the first test stops
-  pub low_stops : {low : Float} → low ≡ rooted binary64 rr → le low limit ≡ true → stops g limit from ≡ true
+  pub low_stops : {low : Float} → low ≡ rooted binary64 s.rr → le low limit ≡ true → stops g limit s ≡ true
   unfolding stops
-  low_stops e t = ap (λ (b : Bool). b || le (pap_of g from) zero64) (sym (ap (λ (v : Float). le v limit) e) ∙ t)
+  low_stops e t = ap (λ (b : Bool). b || le (pap_of g s) zero64) (sym (ap (λ (v : Float). le v limit) e) ∙ t)
 
   -- the second test says whether the state stops
-  pub pap_stops : {low pap : Float} {ap' : List Float} (b : Bool) → low ≡ rooted binary64 rr → le low limit ≡ false → ap' ≡ applied g p → pap ≡ dotted g p ap' → le pap zero64 ≡ b
-      → stops g limit from ≡ b
+  pub pap_stops : {low pap : Float} {ap' : List Float} (b : Bool) → low ≡ rooted binary64 s.rr → le low limit ≡ false → ap' ≡ applied g s.p → pap ≡ dotted g s.p ap'
+      → le pap zero64 ≡ b → stops g limit s ≡ b
   unfolding stops
   pap_stops b e t ea ep u =
-      ap (λ (c : Bool). c || le (pap_of g from) zero64) (sym (ap (λ (v : Float). le v limit) e) ∙ t)
-      ∙ ap (λ (v : Float). le v zero64) (sym (ep ∙ ap (dotted g p) ea)) ∙ u
+      ap (λ (c : Bool). c || le (pap_of g s) zero64) (sym (ap (λ (v : Float). le v limit) e) ∙ t)
+      ∙ ap (λ (v : Float). le v zero64) (sym (ep ∙ ap (dotted g s.p) ea)) ∙ u
 
-  pub alpha_is : {alpha pap : Float} {ap' : List Float} → ap' ≡ applied g p → pap ≡ dotted g p ap' → alpha ≡ narrowed (div binary64 rr pap) → alpha ≡ alpha_of g from
+  pub alpha_is : {alpha pap : Float} {ap' : List Float} → ap' ≡ applied g s.p → pap ≡ dotted g s.p ap' → alpha ≡ narrowed (div binary64 s.rr pap) → alpha ≡ alpha_of g s
   unfolding alpha_of
-  alpha_is ea ep e = e ∙ ap (λ (v : Float). narrowed (div binary64 rr v)) (ep ∙ ap (dotted g p) ea)
+  alpha_is ea ep e = e ∙ ap (λ (v : Float). narrowed (div binary64 s.rr v)) (ep ∙ ap (dotted g s.p) ea)
 
   -- the step's parts are the step
-  pub step_is : {alpha rr' : Float} {ap' x' r' p' : List Float} → ap' ≡ applied g p → alpha ≡ alpha_of g from → Updated g alpha rr x r p ap' x' r' p' rr'
-      → ◌≡◌ {A = State} (record { x = x'; r = r'; p = p'; rr = rr' }) (next g from)
+  pub step_is : {alpha : Float} {ap' : List Float} {s' : State} → ap' ≡ applied g s.p → alpha ≡ alpha_of g s → Updated g alpha s ap' s' → s' ≡ next g s
   unfolding next
-  step_is {alpha} {rr'} {ap'} {x'} {r'} {p'} ea e u =
-      let x= = u.advanced.of_x ∙ ap (λ (a : Float). tabulate (all_nodes g) (plus_at a x p)) e in
-      let r= = u.advanced.of_r ∙ ap (λ (a : Float). tabulate (all_nodes g) (minus_at a r ap')) e ∙ ap (λ (z : List Float). tabulate (all_nodes g) (minus_at (alpha_of g from) r z)) ea in
+  step_is {alpha} {ap'} {s'} ea e u =
+      let x= = u.advanced.of_x ∙ ap (λ (a : Float). tabulate (all_nodes g) (plus_at a s.x s.p)) e in
+      let r= =
+      u.advanced.of_r ∙ ap (λ (a : Float). tabulate (all_nodes g) (minus_at a s.r ap')) e
+      ∙ ap (λ (z : List Float). tabulate (all_nodes g) (minus_at (alpha_of g s) s.r z)) ea in
       let rr= = u.advanced.of_rr ∙ ap (λ (z : List Float). dotted g z z) r= in
       let p= =
-      u.of_p ∙ ap (λ (z : List Float). tabulate (all_nodes g) (plus_at (narrowed (div binary64 rr' rr)) z p)) r=
-      ∙ ap (λ (v : Float). tabulate (all_nodes g) (plus_at (narrowed (div binary64 v rr)) (tabulate (all_nodes g) (minus_at (alpha_of g from) r (applied g p))) p)) rr= in
+      u.of_p ∙ ap (λ (z : List Float). tabulate (all_nodes g) (plus_at (narrowed (div binary64 s'.rr s.rr)) z s.p)) r=
+      ∙ ap (λ (v : Float). tabulate (all_nodes g) (plus_at (narrowed (div binary64 v s.rr)) (tabulate (all_nodes g) (minus_at (alpha_of g s) s.r (applied g s.p))) s.p)) rr= in
       λ i. record { x = x= i; r = r= i; p = p= i; rr = rr= i }
 
+  -- after the update: neither test has stopped, and alpha and the new state are those of the definition
+  pub stepped : {low pap alpha : Float} {ap' : List Float} {s' : State} → low ≡ rooted binary64 s.rr → le low limit ≡ false → ap' ≡ applied g s.p
+      → pap ≡ dotted g s.p ap' → le pap zero64 ≡ false → alpha ≡ narrowed (div binary64 s.rr pap) → Updated g alpha s ap' s'
+      → (stops g limit s ≡ false) × (alpha ≡ alpha_of g s) × (s' ≡ next g s)
+  stepped e t ea ep u en eu = let alpha = alpha_is ea ep en in (pap_stops false e t ea ep u, alpha, step_is ea alpha eu)
+
   -- where its alpha is NaN, so is all of the next state, and every later one is the same
-  pub nan_done : {x' r' p' : List Float} {rr' : Float} → 0 < all_nodes g → stops g limit from ≡ false → nan ≡ alpha_of g from → ◌≡◌ {A = State} (record { x = x'; r = r'; p = p'; rr = rr' }) (next g from)
-      → (k : ℕ) → x' ≡ (steps g limit (suc k) from).x
+  pub nan_done : {s' : State} → 0 < all_nodes g → stops g limit s ≡ false → nan ≡ alpha_of g s → s' ≡ next g s → (k : ℕ) → s'.x ≡ (steps g limit (suc k) s).x
   nan_done some e a t k =
-      let all = nan_next g some from (sym a) in
-      ap (λ (s : State). s.x) (t ∙ all ∙ sym (nan_steps g some limit k) ∙ sym (ap (steps g limit k) all) ∙ sym (steps_on g limit k from e))
+      let all = nan_next g some s (sym a) in
+      ap (λ (z : State). z.x) (t ∙ all ∙ sym (nan_steps g some limit k) ∙ sym (ap (steps g limit k) all) ∙ sym (steps_on g limit k s e))
 
 -- ---- the loop: the steps that are left, from the present state, are the whole
 

@@ -3,5 +3,5 @@ use Rattle.lists.specs.Laws.Tabulate.{of_size}
 use Rattle.solver.proofs.Steps.{start_is}
 use Rattle.solver.proofs.gradients.begin.Goals as goal
 
-pub returns : goal.returns
-returns c = start_is c.args.g c.args.b.now c.apply.ensures (of_size _ c.less.ensures c.requires.node_slices.of_r) c.copy.ensures c.dot.ensures
+pub returns-clause-started : goal.returns-clause-started
+returns-clause-started c = start_is c.args.g c.args.b.now c.apply.ensures (of_size _ c.less.ensures c.requires.sized.of_r) c.copy.ensures c.dot.ensures
