@@ -13,17 +13,11 @@ use Rattle.grid.specs.Grid.{grid_of, all_nodes}
 use Rattle.points.specs.declared.point.Point.{Point}
 use Rattle.levels.specs.declared.Problem.{Problem}
 use Rattle.levels.specs.Levels.{coarsest, grid_at, nodes_at, start_from, level_from, risen, solution}
-use Rattle.levels.specs.Words.{LevelSlices}
 use Rattle.levels.proofs.Fronts.{zeros_front}
 
 pub nodes_is : (t : Problem) (depth : ℕ) {g : Grid} → g ≡ grid_at t depth → all_nodes g ≡ nodes_at depth
 unfolding grid_of
 nodes_is t depth e = ap all_nodes e
-
--- the same slices, counted by the first
-pub sized_by : {n m : ℕ} {x b s r p a : List Float} → LevelSlices n x b s r p a → n ≡ m → LevelSlices m x b s r p a
-sized_by z e =
-    record { of_x = z.of_x ∙ e; of_b = z.of_b ∙ e; of_s = z.of_s ∙ e; of_r = z.of_r ∙ e; of_p = z.of_p ∙ e; of_ap = z.of_ap ∙ e }
 
 module _ (t : Problem) (ps : List Point) where
   -- the first level, whose x was cleared

@@ -16,15 +16,6 @@ pub record LevelSlices (n : ℕ) (x b s r p ap : List Float) : Type 0 where
   pub of_p : length p ≡ n
   pub of_ap : length ap ≡ n
 
--- six slices cleared: what they came with, and what they are left with
-pub record Zeros (before b s r p ap before' b' s' r' p' ap' : List Float) : Type 0 where
-  pub of_before : before' ≡ zeros32 (length before)
-  pub of_b : b' ≡ zeros32 (length b)
-  pub of_s : s' ≡ zeros32 (length s)
-  pub of_r : r' ≡ zeros32 (length r)
-  pub of_p : p' ≡ zeros32 (length p)
-  pub of_ap : ap' ≡ zeros32 (length ap)
-
 -- the seven slices at exit: x is the solution, the other six are zeros
 pub record LevelsLeft (n : ℕ) (solution x before b s r p ap : List Float) : Type 0 where
   pub of_x : x ≡ solution

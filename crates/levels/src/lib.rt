@@ -7,12 +7,14 @@ ghost use Rattle.std.specs.Prelude.{◌≡◌, length};
 ghost use Rattle.grid.specs.Grid.{Sides};
 ghost use Rattle.points.specs.Points.{usables};
 ghost use Rattle.levels.specs.Levels.{grid_at, nodes_at, solution};
-ghost use Rattle.levels.specs.Words.{IsDepth, LevelSlices, Zeros, LevelsLeft};
+ghost use Rattle.levels.specs.Words.{IsDepth, LevelSlices, LevelsLeft};
 
 mod rising;
+mod slices;
 mod starting;
 
 use crate::rising::all_levels;
+use crate::slices::Slices;
 use grid::Grid;
 
 // What is solved on every level: the cube, how the right side is smoothed, and when to stop.
@@ -57,26 +59,15 @@ pub fn solve(
     ensures { LevelsLeft (nodes_at depth) (solution problem (usables points.now) depth) x.new before.new
         b.new s.new r.new p.new ap.new }
 {
-    all_levels(problem, points, depth, x, before, b, s, r, p, ap);
-    clear_scratch(before, b, s, r, p, ap);
-}
-
-// The six scratch slices, one after the other.
-fn clear_scratch(
-    before: &mut [f32],
-    b: &mut [f32],
-    s: &mut [f32],
-    r: &mut [f32],
-    p: &mut [f32],
-    ap: &mut [f32],
-)
-    ensures { Zeros before.old b.old s.old r.old p.old ap.old before.new
-        b.new s.new r.new p.new ap.new }
-{
-    lists::clear(before);
-    lists::clear(b);
-    lists::clear(s);
-    lists::clear(r);
-    lists::clear(p);
-    lists::clear(ap);
+    let mut slices = Slices {
+        x,
+        before,
+        b,
+        s,
+        r,
+        p,
+        ap,
+    };
+    all_levels(problem, points, depth, &mut slices);
+    slices.clear_scratch();
 }

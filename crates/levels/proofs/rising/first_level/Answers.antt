@@ -8,5 +8,6 @@ pub level_front-requires-clause-g_in_bounds : goal.level_front-requires-clause-g
 level_front-requires-clause-g_in_bounds c =
     omega (arith, c.clear.auto.values, nodes_is c.args.problem c.args.depth c.grid.ensures.0, c.requires.depth_in_bounds)
 
-pub returns : goal.returns
-returns c = first_is c.args.problem (usables c.args.points.now) c.args.depth c.level_front.new.x c.grid.ensures.0 c.requires.depth_in_bounds c.clear.ensures c.level_front.ensures
+pub returns-clause-front : goal.returns-clause-front
+returns-clause-front c =
+    first_is c.args.problem (usables c.args.points.now) c.args.depth c.level_front.new.slices.x.now c.grid.ensures.0 c.requires.depth_in_bounds c.clear.ensures c.level_front.ensures.front

@@ -8,11 +8,13 @@ pub start_front-requires-clause-coarse_in_bounds : goal.start_front-requires-cla
 start_front-requires-clause-coarse_in_bounds c =
     let few = nodes_is c.args.problem c.args.depth c.grid.ensures.0 in
     let many = nodes_is c.args.problem _ c.grid-g.ensures.0 in
-    (omega (arith, few, c.requires.before_len), omega (arith, few, c.requires.before_len), omega (arith, many, c.requires.before_len))
+    let before = c.requires.sized.of_before in
+    (omega (arith, few, before, c.requires.nodes_in_bounds), omega (arith, few, c.requires.nodes_in_bounds), omega (arith, many, c.requires.nodes_in_bounds))
 
 pub level_front-requires-clause-g_in_bounds : goal.level_front-requires-clause-g_in_bounds
 level_front-requires-clause-g_in_bounds c =
-    omega (arith, c.start_front.auto.x, nodes_is c.args.problem _ c.grid-g.ensures.0, c.requires.before_len)
+    omega (arith, c.start_front.auto.x, nodes_is c.args.problem _ c.grid-g.ensures.0, c.requires.nodes_in_bounds)
 
-pub returns : goal.returns
-returns c = next_is c.args.problem (usables c.args.points.now) c.args.depth c.args.x.now c.start_front.new.x c.level_front.new.x c.grid.ensures.0 c.grid-g.ensures.0 c.start_front.ensures c.level_front.ensures
+pub returns-clause-front : goal.returns-clause-front
+returns-clause-front c =
+    next_is c.args.problem (usables c.args.points.now) c.args.depth c.args.slices.now.x.now c.start_front.new.x c.level_front.new.slices.x.now c.grid.ensures.0 c.grid-g.ensures.0 c.start_front.ensures c.level_front.ensures.front
