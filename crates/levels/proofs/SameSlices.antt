@@ -1,7 +1,7 @@
 -- The seven slices through one level after another: they stay the same ones, each of its length. By congruence. Assumes nothing.
 use Rattle.std.specs.Prelude.{◌≡◌, ℕ}
 use Rattle.std.proofs.Common.{◌∙◌}
-use Rattle.levels.specs.declared.slices.Slices.{Slices}
+use Rattle.levels.specs.declared.Slices.{Slices}
 use Rattle.levels.specs.Slices.{SameSlices, AllSized}
 
 -- counted by the first, or by the nodes

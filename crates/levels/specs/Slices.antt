@@ -1,7 +1,7 @@
 -- The seven slices of the levels as one value: words of the contracts inside this crate. No definition of what is right rests on them. Assumes nothing.
 use Rattle.std.specs.Prelude.{◌≡◌, ℕ, length}
 use Rattle.lists.specs.Lists.{zeros32}
-use Rattle.levels.specs.declared.slices.Slices.{Slices}
+use Rattle.levels.specs.declared.Slices.{Slices}
 
 -- the same seven slices: none is another's, whatever stands in them
 abbrev pub SameSlices : Slices → Slices → Type 0

@@ -7,14 +7,13 @@ ghost use Rattle.std.specs.Prelude.{◌≡◌, length};
 ghost use Rattle.grid.specs.Grid.{Sides};
 ghost use Rattle.points.specs.Points.{usables};
 ghost use Rattle.levels.specs.Levels.{grid_at, nodes_at, solution};
+ghost use Rattle.levels.specs.Slices.{SameSlices, ScratchCleared};
 ghost use Rattle.levels.specs.Words.{IsDepth, LevelSlices, LevelsLeft};
 
 mod rising;
-mod slices;
 mod starting;
 
 use crate::rising::all_levels;
-use crate::slices::Slices;
 use grid::Grid;
 
 // What is solved on every level: the cube, how the right side is smoothed, and when to stop.
@@ -36,6 +35,33 @@ impl Problem {
     {
         let origin = self.origin;
         Grid::new(origin, self.size, depth)
+    }
+}
+
+// The seven slices of a value a node: the solution, the level before and five of scratch. They are lent together and go back together.
+#[derive(Drop)]
+struct Slices<'a> {
+    x: &'a mut [f32],
+    before: &'a mut [f32],
+    b: &'a mut [f32],
+    s: &'a mut [f32],
+    r: &'a mut [f32],
+    p: &'a mut [f32],
+    ap: &'a mut [f32],
+}
+
+impl Slices<'_> {
+    // All but x, one after the other.
+    fn clear_scratch(&mut self)
+        ensures same { SameSlices self.old self.new }
+        ensures cleared { ScratchCleared self.old self.new }
+    {
+        lists::clear(self.before);
+        lists::clear(self.b);
+        lists::clear(self.s);
+        lists::clear(self.r);
+        lists::clear(self.p);
+        lists::clear(self.ap);
     }
 }
 

@@ -6,8 +6,7 @@ ghost use Rattle.levels.specs.Levels.{grid_at, nodes_at, start_from, level_from,
 ghost use Rattle.levels.specs.Slices.{SameSlices, AllSized};
 ghost use Rattle.levels.specs.Words.{IsDepth, LevelSlices};
 
-use crate::Problem;
-use crate::slices::Slices;
+use crate::{Problem, Slices};
 use crate::starting::start_front;
 use grid::Grid;
 

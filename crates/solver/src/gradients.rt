@@ -12,11 +12,11 @@ use vectors::{advance, copy, dot, less, xpay};
 
 // The four vectors: the solution so far, the residual, the direction, and A p. They are lent together and go back together.
 #[derive(Drop)]
-pub struct Run<'a> {
-    pub x: &'a mut [f32],
-    pub r: &'a mut [f32],
-    pub p: &'a mut [f32],
-    pub ap: &'a mut [f32],
+struct Run<'a> {
+    x: &'a mut [f32],
+    r: &'a mut [f32],
+    p: &'a mut [f32],
+    ap: &'a mut [f32],
 }
 
 // The step by alpha: x, r, rr, beta and p, in this order. It answers the new rr.
