@@ -6,8 +6,8 @@ ghost use Rattle.levels.specs.Levels.{grid_at, nodes_at, start_from, level_from,
 ghost use Rattle.levels.specs.Slices.{SameSlices, AllSized};
 ghost use Rattle.levels.specs.Words.{IsDepth, LevelSlices};
 
-use crate::{Problem, Slices};
 use crate::starting::start_front;
+use crate::{Problem, Slices};
 use grid::Grid;
 
 // One level, from x on: its right side, then conjugate gradients. Three of the right side's four scratch slices are r, p and ap then.
