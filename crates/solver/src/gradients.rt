@@ -55,7 +55,7 @@ fn one_turn(g: Grid, run: &mut Run, rr: f64, limit: f64) -> Option<f64>
     }
     let alpha = arith::narrow(rr / pap);
     let rr_new = update(g, run, alpha, rr);
-    if alpha != alpha {
+    if alpha.is_nan() {
         return None;
     }
     Some(rr_new)
