@@ -2,7 +2,8 @@
 -- (`most_faces`). So neither 9 nor 10 is answered, and with whole points and scratch for 512 nodes neither 7 nor 8 (`told_to_6`). By the counts of the crate
 -- `closed`. Assumes nothing.
 use mathlib.Core.Path.{◌≡◌, refl, sym, ap, subst}
-use mathlib.Core.Bool.{Bool, true, false, cond, not, ◌||◌}
+use mathlib.Core.Bool.{Bool, true, false, not, ◌||◌}
+use Rattle.std.specs.Prelude.{Ok, Err}
 use mathlib.Core.List.{List, [], ◌∷◌}
 use Prim.Native.Nat.{ℕ, ◌+◌, ◌-◌, ◌*◌, ◌%◌, ◌^◌, ◌≤◌}
 use native.Mathlib.Decide.{dec_le}
@@ -26,12 +27,12 @@ use Rattle.points.specs.Points.{numbers_per_point, given, usables}
 use Rattle.settings.specs.declared.Settings.{Settings}
 use Rattle.settings.specs.declared.Lengths.{Lengths}
 use Rattle.answers.specs.declared.Answer.{Answer}
-use Rattle.answers.specs.declared.Verdict.{Verdict}
-use Rattle.answers.specs.declared.Verdict.TheVariants.{Pass, PointSlice, NoPoints, Depth, Smoothing, ScratchRoom, TooFew, Flat, VertexRoom, FaceRoom, NoFace}
-use Rattle.answers.specs.Answers.{number_of, accepts, ◌when◌, ◌then◌}
+use Rattle.answers.specs.declared.Refusal.{Refusal}
+use Rattle.answers.specs.declared.Refusal.TheVariants.{PointSlice, NoPoints, Depth, Smoothing, ScratchRoom, TooFew, Flat, VertexRoom, FaceRoom, NoFace}
+use Rattle.answers.specs.Answers.{Verdict, Pass, refusal_number, number_of, ◌when◌, ◌then◌}
 use Rattle.settings.specs.Refusals.{point_slice_verdict, no_points_verdict, depth_verdict, smoothing_verdict, any_short, scratch_verdict}
 use Rattle.settings.specs.Refusals.{early_verdict, usable_verdict, extent_verdict, vertex_room_verdict, face_room_verdict, mesh_verdict}
-use Rattle.answers.specs.Laws.InARow.{accepted, number_under}
+use Rattle.answers.specs.Laws.InARow.{number_under}
 use Rattle.settings.specs.Laws.Passed.{depth_fits, Fit, ready}
 use Rattle.cells.specs.Extraction.{edge_faces, vertex_edges}
 use Rattle.scan.specs.Reconstruction.{grid_for, extent_for, vertex_total, face_total, kept_faces, accepted_answer, late_verdict, verdict_of, reconstructed}
@@ -89,20 +90,17 @@ pub record Enough (lent : Lengths) : Type 0 where
 abbrev Small : Verdict → Type 0
 Small v = number_of v ≤ 6
 
-small_when : (v : Verdict) (b : Bool) → Small v → Small (v when b)
-small_when v true s = s
-small_when v false s = omega arith
+small_when : (x : Refusal) (b : Bool) → refusal_number x ≤ 6 → Small (x when b)
+small_when x true s = s
+small_when x false s = omega arith
 
 -- one that is not given
-never : (v : Verdict) (b : Bool) → b ≡ false → Small (v when b)
-never v b e = rw e (omega arith)
+never : (x : Refusal) (b : Bool) → b ≡ false → Small (x when b)
+never x b e = rw e (omega arith)
 
 small_then : (v w : Verdict) → Small v → (v ≡ Pass → Small w) → Small (v then w)
-small_then v w s t = by_cases (accepts v) refl
-  where
-    by_cases : (b : Bool) → accepts v ≡ b → Small (cond b w v)
-    by_cases true e = t (accepted v e)
-    by_cases false e = s
+small_then (Ok u) w s t = t refl
+small_then (Err x) w s t = s
 
 none : (a b : Bool) → a ≡ false → b ≡ false → (a || b) ≡ false
 none a b p q = rw p q

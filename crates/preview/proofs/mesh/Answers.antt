@@ -14,4 +14,4 @@ tell-requires g c =
       edges = omega arith;
       distances = omega arith;
     })
-    _ c.poisson_reconstruction-answer.ensures.answered
+    _ c.poisson_reconstruction-answer.ensures.done.answered
