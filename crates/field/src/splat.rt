@@ -47,7 +47,7 @@ pub fn splat(g: Grid, points: &[f32], a: usize, v: &mut [f32])
     ensures { v.new ≡ splatted g (usables points.now) a }
 {
     lists::clear(v);
-    for i in 0..Point::given(points) {
-        add_usable(v, g, Point::read(points, i), a);
+    for p in Point::all(points) {
+        add_usable(v, g, p, a);
     }
 }

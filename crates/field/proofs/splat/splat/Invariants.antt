@@ -1,12 +1,10 @@
--- `field::splat::splat` meets its contract: a fold over the usable points, from zeros.
+-- `field::splat::splat` meets its contract: the fold over the points that are left, from what stands in `v`, is the fold over all of them.
 -- Assumes nothing.
-use Rattle.std.proofs.Common.{◌≡◌, length}
-use Rattle.lists.specs.Lists.{zeros32}
-use Rattle.points.specs.Points.{given}
-use Rattle.points.specs.Laws.UsableLoop.{FoldedUsable}
-use Rattle.field.specs.Field.{point_added}
-use Rattle.grid.specs.Grid.{all_nodes}
+use Rattle.std.proofs.Common.{◌≡◌, cond}
+use Rattle.std.specs.List.{fold}
+use Rattle.points.specs.Points.{points_left, usable_of, usables}
+use Rattle.field.specs.Field.{point_added, splatted}
 use Rattle.field.proofs.splat.splat.Given as goal
 
-abbrev pub invariant-loop-i : goal.invariant-loop-i
-invariant-loop-i l = FoldedUsable (point_added l.g l.a) (zeros32 (all_nodes l.g)) l.points l.v l.i × (length l.v ≡ all_nodes l.g) × (l.i-end ≡ given l.points)
+abbrev pub invariant-loop-p : goal.invariant-loop-p
+invariant-loop-p l = fold (λ v p. cond (usable_of p) (point_added l.g l.a v p) v) l.v (points_left l.p-iterator) ≡ splatted l.g (usables l.points) l.a
