@@ -14,28 +14,26 @@ use std::io;
 
 // ---- counts
 
-// A number for each answer: 0 of a usable point, then the reasons in the order of checking.
-fn code(u: Result<(), Unusable>) -> u32 {
-    match u {
-        Ok(()) => 0,
-        Err(Unusable::PositionNotFinite) => 1,
-        Err(Unusable::LengthNotFinite) => 2,
-        Err(Unusable::NormalTooShort) => 3,
-    }
-}
+// The answers in the order of checking, after that of a usable point.
+const ANSWERS: [Result<(), Unusable>; 4] = [
+    Ok(()),
+    Err(Unusable::PositionNotFinite),
+    Err(Unusable::LengthNotFinite),
+    Err(Unusable::NormalTooShort),
+];
 
-// How many points have the reason of this number.
-fn count_of(points: &[f32], reason: u32) -> usize {
-    (0..Point::given(points))
-        .filter(|i| code(Point::read(points, *i).usability()) == reason)
+// How many points have this answer.
+fn count_of(points: &[f32], answer: Result<(), Unusable>) -> usize {
+    Point::all(points)
+        .filter(|p| p.usability() == answer)
         .count()
 }
 
-// The count that the hot loops use, then the four counts by reason: the first of them is the same number, asked another way.
+// The count that the hot loops use, then the four counts by answer: the first of them is the same number, asked another way.
 fn print_counts(rt: &impl Print, points: &[f32]) -> io::Result<()> {
     print!(rt; "  usable {}, by reason", points::usable_count(points))?;
-    for reason in 0..4 {
-        print!(rt; " {}", count_of(points, reason))?;
+    for answer in ANSWERS {
+        print!(rt; " {}", count_of(points, answer))?;
     }
     println!(rt;)
 }
