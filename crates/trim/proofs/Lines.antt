@@ -1,6 +1,6 @@
--- Three lists taken as one: what stands at a place of the one stands in the first, the second or the third, and so for what is stored. d is what is read
--- past a list's end. Assumes nothing.
-use mathlib.Core.Path.{◌≡◌, sym, ap, ◌∙◌}
+-- Three lists taken as one: what stands at a place of the one stands in the first, the second or the third, and so for what is stored. Three slices that
+-- are the same after one step and after the next are the same after both. Assumes nothing.
+use mathlib.Core.Path.{◌≡◌, refl, sym, ap, ◌∙◌}
 use mathlib.Core.List.{List, [], ◌∷◌, ◌++◌}
 use Prim.Native.Nat.{ℕ, ◌+◌, ◌-◌, ◌*◌, ◌≤◌, ◌<◌}
 use native.Mathlib.Nat.{zero-add, suc-add}
@@ -8,7 +8,8 @@ use native.Mathlib.Omega.{arith}
 use lib.ListN.{length, get_or, set, length-append, get_or-append}
 use lib.Seq.{set-append_left, get_or-append-add}
 use lib.Ieee.{Float, nan}
-use Rattle.trim.specs.Words.{lines, Even}
+use Rattle.trim.specs.declared.moving.Lines.{Lines}
+use Rattle.trim.specs.Words.{lines, Even, whole, EvenLines, SameLines}
 
 set_append_add : {A : Type 0} (xs ys : List A) (k : ℕ) (x : A) → set (xs ++ ys) (length xs + k) x ≡ xs ++ set ys k x
 set_append_add [] ys k x = ap (λ (n : ℕ). set ys n x) (zero-add k)
@@ -50,3 +51,29 @@ module _ (a b c : List Float) (even : Even a b c) (w : ℕ) where
   get_third h k =
       let e : w ≡ length (a ++ b) + (w - length a - length a) = omega (arith, two) in
       sym (ap (λ (n : ℕ). get_or (lines a b c) n nan) e ∙ get_or-append-add (a ++ b) c (w - length a - length a) nan)
+
+-- ---- the three slices after a step
+
+pub same_yet : (l : Lines) → SameLines l l
+same_yet l = record { same = refl; long_a = refl; long_b = refl; long_c = refl }
+
+pub then_same : {l m n : Lines} → SameLines l m → SameLines m n → SameLines l n
+then_same {l} {m} {n} p q =
+    record {
+      same =
+          q.same
+          ∙ (λ i. record {
+            a = record (p.same i).a { now = n.a.now };
+            b = record (p.same i).b { now = n.b.now };
+            c = record (p.same i).c { now = n.c.now };
+          });
+      long_a = q.long_a ∙ p.long_a;
+      long_b = q.long_b ∙ p.long_b;
+      long_c = q.long_c ∙ p.long_c;
+    }
+
+-- they have as much room as before
+pub still_room : {l m : Lines} {used : ℕ} → EvenLines l → used ≤ 3 * length l.a.now → SameLines l m → used ≤ length (whole m)
+still_room {l} {m} even few s =
+    let even' : EvenLines m = record { second = omega (arith, even.second, s.long_a, s.long_b); third = omega (arith, even.third, s.long_a, s.long_c) } in
+    omega (arith, length_lines m.a.now m.b.now m.c.now even', few, s.long_a)

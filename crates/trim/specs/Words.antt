@@ -1,11 +1,12 @@
 -- What the trim's passes leave, in the order of the passes: the table over the old vertices, the renumbered faces, the coordinates on their way.
 -- Definitions only; assumes nothing.
 use Rattle.std.specs.Prelude.{◌≡◌, List, ◌++◌, ℕ, zero, suc, ◌+◌, ◌*◌, ◌≤◌, ◌<◌, length, get_or, set, take, Float}
-use Rattle.lists.specs.Lists.{at}
+use Rattle.lists.specs.Lists.{at, zeros32}
 use Rattle.closed.specs.Faces.{Face, faces}
 use Rattle.closed.specs.Numbering.{used, mesh, slot}
 use Rattle.meshes.specs.FlatMesh.{vertex_count, coordinate}
 use Rattle.meshes.specs.declared.MeshSize.{MeshSize}
+use Rattle.trim.specs.declared.moving.Lines.{Lines}
 
 -- ---- the table: for each old vertex 0, or one more than its place among those seen
 
@@ -39,6 +40,25 @@ pub record Even (a b c : List Float) : Type 0 where
   pub second : length b ≡ length a
   pub third : length c ≡ length a
 
+-- the three that are lent together
+abbrev pub whole : Lines → List Float
+whole l = lines l.a.now l.b.now l.c.now
+
+abbrev pub EvenLines : Lines → Type 0
+EvenLines l = Even l.a.now l.b.now l.c.now
+
+-- the same three slices, as long as they were, whatever stands in them
+pub record SameLines (l m : Lines) : Type 0 where
+  pub same : m ≡ record { a = record l.a { now = m.a.now }; b = record l.b { now = m.b.now }; c = record l.c { now = m.c.now } }
+  pub long_a : length m.a.now ≡ length l.a.now
+  pub long_b : length m.b.now ≡ length l.b.now
+  pub long_c : length m.c.now ≡ length l.c.now
+
+pub record ClearedLines (l m : Lines) : Type 0 where
+  pub a_clear : m.a.now ≡ zeros32 (length l.a.now)
+  pub b_clear : m.b.now ≡ zeros32 (length l.b.now)
+  pub c_clear : m.c.now ≡ zeros32 (length l.c.now)
+
 -- ---- the coordinates of one axis: from the old vertices to the places of their new numbers in a list, and from there to the new vertices
 
 -- x at the place that an entry of the table names, if it names one
@@ -57,8 +77,8 @@ scattered line axis vertices zero = vertices
 scattered line axis vertices (suc w) = set (scattered line axis vertices w) (3 * w + axis) (at line w)
 
 -- what the gathering asks
-pub record Lists (table : List ℕ) (vertices a b c : List Float) (axis : ℕ) : Type 0 where
-  pub even : Even a b c
+pub record Lists (table : List ℕ) (vertices : List Float) (l : Lines) (axis : ℕ) : Type 0 where
+  pub even : EvenLines l
   pub one_axis : axis < 3
   pub marks : vertex_count vertices ≤ length table
-  pub numbered : (v : ℕ) → v < vertex_count vertices → get_or table v 0 ≤ 3 * length a
+  pub numbered : (v : ℕ) → v < vertex_count vertices → get_or table v 0 ≤ 3 * length l.a.now

@@ -14,10 +14,10 @@ ghost use Rattle.points.specs.Points.{usables};
 ghost use Rattle.meshes.specs.FlatMesh.{vertex_count, Meshed};
 ghost use Rattle.settings.specs.declared.Trimming.TheVariants.{Within};
 ghost use Rattle.trim.specs.Trim.{near_faces, Trimmed, TrimRoom};
-ghost use Rattle.trim.specs.Words.{Front};
+ghost use Rattle.trim.specs.Words.{Front, SameLines};
 
 use meshes::MeshSize;
-use settings::Trimming;
+use moving::Lines;
 
 // The faces near a usable point move to the front and are renumbered; the table has the new number of each vertex that they use.
 fn keep_near(
@@ -48,19 +48,18 @@ fn trim_within(
     vertices: &mut [f32],
     faces: &mut [u32],
     table: &mut [u32],
-    a: &mut [f32],
-    b: &mut [f32],
-    c: &mut [f32],
+    lines: &mut Lines,
 ) -> MeshSize
     requires meshed { Meshed vertices.old faces.old }
-    requires trim_room { TrimRoom vertices.old faces.old table.old a.old b.old c.old }
-    ensures { Trimmed (Within distance) (usables points.now) vertices.old faces.old result vertices.new
+    requires trim_room { TrimRoom vertices.old faces.old table.old lines.old.a.now lines.old.b.now lines.old.c.now }
+    ensures same { SameLines lines.old lines.new }
+    ensures trimmed { Trimmed (Some distance) (usables points.now) vertices.old faces.old result vertices.new
         faces.new }
 {
     let size = keep_near(distance, points, vertices, faces, table);
     let used = size.vertices;
     let kept = size.faces;
-    moving::move_vertices(table, vertices, a, b, c, used as u32);
+    moving::move_vertices(table, vertices, lines, used as u32);
     lists::clear_from(vertices, 3 * used);
     lists::clear_from(faces, 3 * kept);
     size
@@ -73,13 +72,12 @@ fn trim_as_chosen(
     vertices: &mut [f32],
     faces: &mut [u32],
     table: &mut [u32],
-    a: &mut [f32],
-    b: &mut [f32],
-    c: &mut [f32],
+    lines: &mut Lines,
 ) -> MeshSize
     requires meshed { Meshed vertices.old faces.old }
-    requires trim_room { TrimRoom vertices.old faces.old table.old a.old b.old c.old }
-    ensures { Trimmed trimming (usables points.now) vertices.old faces.old result vertices.new
+    requires trim_room { TrimRoom vertices.old faces.old table.old lines.old.a.now lines.old.b.now lines.old.c.now }
+    ensures same { SameLines lines.old lines.new }
+    ensures trimmed { Trimmed trimming (usables points.now) vertices.old faces.old result vertices.new
         faces.new }
 {
     match trimming {
@@ -87,9 +85,7 @@ fn trim_as_chosen(
             vertices: vertices.len() / 3,
             faces: faces.len() / 3,
         },
-        Trimming::Within(distance) => {
-            trim_within(distance, points, vertices, faces, table, a, b, c)
-        }
+        Some(distance) => { trim_within(distance, points, vertices, faces, table, lines) }
     }
 }
 
@@ -113,10 +109,9 @@ pub fn trim(
     ensures b_after { b.new ≡ zeros32 (length b.old) }
     ensures c_after { c.new ≡ zeros32 (length c.old) }
 {
-    let size = trim_as_chosen(trimming, points, vertices, faces, table, a, b, c);
+    let mut lines = Lines { a, b, c };
+    let size = trim_as_chosen(trimming, points, vertices, faces, table, &mut lines);
     lists::clear(table);
-    lists::clear(a);
-    lists::clear(b);
-    lists::clear(c);
+    lines.clear();
     size
 }

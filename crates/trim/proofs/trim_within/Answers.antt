@@ -42,8 +42,8 @@ overflow_mul-used c = omega (arith, (few _ _ _ _ c.requires.meshed c.requires.tr
 pub overflow_mul-kept : goal.overflow_mul-kept
 overflow_mul-kept c = omega (arith, (few _ _ _ _ c.requires.meshed c.requires.trim_room.countable c.keep_near-size.ensures c.keep_near-size.auto.faces).2)
 
-pub returns : goal.returns
-returns c =
+pub returns-clause-trimmed : goal.returns-clause-trimmed
+returns-clause-trimmed c =
     let ps = usables c.args.points.now in
     let vertices = c.args.vertices.now in
     let numbers = c.args.faces.now in
@@ -51,5 +51,5 @@ returns c =
     let near = c.keep_near-size in
     let move = c.move_vertices in
     trimmed_within ps vertices c.args.distance numbers m near.ensures near.auto.faces move.new.vertices _ _ move.auto.vertices
-    (move.ensures _ near.ensures.slots (used_no_repeat _) (within_below ps vertices c.args.distance numbers m))
+    (move.ensures.places _ near.ensures.slots (used_no_repeat _) (within_below ps vertices c.args.distance numbers m))
     c.clear_from.ensures c.clear_from-2.ensures

@@ -1,7 +1,7 @@
 -- `trim::moving::gather`: before vertex v the coordinates of the vertices before it are carried. Assumes nothing.
-use Rattle.std.proofs.Common.{◌≡◌, length}
-use Rattle.trim.specs.Words.{lines, gathered}
+use Rattle.std.proofs.Common.{◌≡◌}
+use Rattle.trim.specs.Words.{whole, SameLines, gathered}
 use Rattle.trim.proofs.moving.gather.Given as goal
 
 abbrev pub invariant-loop-v : goal.invariant-loop-v
-invariant-loop-v l = (lines l.a l.b l.c ≡ gathered l.table l.vertices l.axis (lines l.initial.a l.initial.b l.initial.c) l.v) × (length l.a ≡ length l.initial.a) × (length l.b ≡ length l.initial.b) × (length l.c ≡ length l.initial.c)
+invariant-loop-v l = SameLines l.initial.lines l.lines × (whole l.lines ≡ gathered l.table l.vertices l.axis (whole l.initial.lines) l.v)
