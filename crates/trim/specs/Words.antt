@@ -1,7 +1,7 @@
 -- What the trim's passes leave, in the order of the passes: the table over the old vertices, the renumbered faces, the coordinates on their way.
 -- Definitions only; assumes nothing.
 use Rattle.std.specs.Prelude.{◌≡◌, List, ◌++◌, ℕ, zero, suc, ◌+◌, ◌*◌, ◌≤◌, ◌<◌, length, get_or, set, take, Float}
-use Rattle.lists.specs.Lists.{at, zeros32}
+use Rattle.lists.specs.Lists.{at}
 use Rattle.closed.specs.Faces.{Face, faces}
 use Rattle.closed.specs.Numbering.{used, mesh, slot}
 use Rattle.meshes.specs.FlatMesh.{vertex_count, coordinate}
@@ -53,11 +53,6 @@ pub record SameLines (l m : Lines) : Type 0 where
   pub long_a : length m.a.now ≡ length l.a.now
   pub long_b : length m.b.now ≡ length l.b.now
   pub long_c : length m.c.now ≡ length l.c.now
-
-pub record ClearedLines (l m : Lines) : Type 0 where
-  pub a_clear : m.a.now ≡ zeros32 (length l.a.now)
-  pub b_clear : m.b.now ≡ zeros32 (length l.b.now)
-  pub c_clear : m.c.now ≡ zeros32 (length l.c.now)
 
 -- ---- the coordinates of one axis: from the old vertices to the places of their new numbers in a list, and from there to the new vertices
 

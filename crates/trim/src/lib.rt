@@ -112,6 +112,8 @@ pub fn trim(
     let mut lines = Lines { a, b, c };
     let size = trim_as_chosen(trimming, points, vertices, faces, table, &mut lines);
     lists::clear(table);
-    lines.clear();
+    lists::clear(lines.a);
+    lists::clear(lines.b);
+    lists::clear(lines.c);
     size
 }

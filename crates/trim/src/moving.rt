@@ -4,7 +4,7 @@ ghost use Rattle.lists.specs.Lists.{at};
 ghost use Rattle.meshes.specs.FlatMesh.{vertex_count};
 ghost use Rattle.closed.specs.Numbering.{NoRepeat};
 ghost use Rattle.trim.specs.Trim.{places_of};
-ghost use Rattle.trim.specs.Words.{Slots, whole, SameLines, EvenLines, ClearedLines, carried, gathered, scattered, Lists};
+ghost use Rattle.trim.specs.Words.{Slots, whole, SameLines, EvenLines, carried, gathered, scattered, Lists};
 
 use grid::Vertex;
 
@@ -50,16 +50,6 @@ impl Lines<'_> {
         } else {
             self.c[w - n - n]
         }
-    }
-
-    // Clears all three.
-    pub fn clear(&mut self)
-        ensures same { SameLines self.old self.new }
-        ensures cleared { ClearedLines self.old self.new }
-    {
-        lists::clear(self.a);
-        lists::clear(self.b);
-        lists::clear(self.c);
     }
 
     // A coordinate of an old vertex goes to the place of its new number, if its entry in the table names one.
