@@ -1,4 +1,4 @@
-// TRIANGLE_TABLE of marching_cubes.rs: 256 rows of sixteen signed entries, laid out flat, since nested the check of an older toolchain did not finish.
+// TRIANGLE_TABLE of marching_cubes.rs: 256 rows of sixteen signed entries, laid out flat as `flat_table` is: nested, its check takes seven times as long.
 ghost use Rattle.std.specs.Prelude.{◌≡◌};
 ghost use Rattle.closed.specs.Rows.{flat_table};
 
