@@ -1,13 +1,13 @@
--- Three lists taken as one: what stands at a place of the one stands in the first, the second or the third, and so for what is stored. Three slices that
--- are the same after one step and after the next are the same after both. Assumes nothing.
+-- Three lists taken as one: what is stored at a place of the one is stored in the first, the second or the third. Three slices that are the same after one
+-- step and after the next are the same after both. Assumes nothing.
 use mathlib.Core.Path.{◌≡◌, refl, sym, ap, ◌∙◌}
 use mathlib.Core.List.{List, [], ◌∷◌, ◌++◌}
 use Prim.Native.Nat.{ℕ, ◌+◌, ◌-◌, ◌*◌, ◌≤◌, ◌<◌}
 use native.Mathlib.Nat.{zero-add, suc-add}
 use native.Mathlib.Omega.{arith}
-use lib.ListN.{length, get_or, set, length-append, get_or-append}
-use lib.Seq.{set-append_left, get_or-append-add}
-use lib.Ieee.{Float, nan}
+use lib.ListN.{length, set, length-append}
+use lib.Seq.{set-append_left}
+use lib.Ieee.{Float}
 use Rattle.trim.specs.declared.moving.Lines.{Lines}
 use Rattle.trim.specs.Words.{lines, Even, whole, EvenLines, SameLines}
 
@@ -15,14 +15,12 @@ set_append_add : {A : Type 0} (xs ys : List A) (k : ℕ) (x : A) → set (xs ++ 
 set_append_add [] ys k x = ap (λ (n : ℕ). set ys n x) (zero-add k)
 set_append_add {A} (y ∷ xs) ys k x = rw (suc-add (length xs) k) (ap (λ (l : List A). y ∷ l) (set_append_add xs ys k x))
 
-pub length_lines : (a b c : List Float) → Even a b c → length (lines a b c) ≡ 3 * length a
+length_lines : (a b c : List Float) → Even a b c → length (lines a b c) ≡ 3 * length a
 length_lines a b c even = omega (arith, length-append (a ++ b) c, length-append a b, even.second, even.third)
 
 module _ (a b c : List Float) (even : Even a b c) (w : ℕ) where
   two : length (a ++ b) ≡ length a + length a
   two = length-append a b ∙ ap (λ (n : ℕ). length a + n) even.second
-
-  -- ---- stored
 
   pub put_first : (x : Float) → w < length a → lines (set a w x) b c ≡ set (lines a b c) w x
   put_first x h = sym (set-append_left (a ++ b) c w x (omega (arith, two)) ∙ ap (λ (l : List Float). l ++ c) (set-append_left a b w x h))
@@ -36,21 +34,6 @@ module _ (a b c : List Float) (even : Even a b c) (w : ℕ) where
   put_third x h k =
       let e : w ≡ length (a ++ b) + (w - length a - length a) = omega (arith, two) in
       sym (ap (λ (n : ℕ). set (lines a b c) n x) e ∙ set_append_add (a ++ b) c (w - length a - length a) x)
-
-  -- ---- read
-
-  pub get_first : w < length a → get_or a w nan ≡ get_or (lines a b c) w nan
-  get_first h = sym (get_or-append (a ++ b) c nan w (omega (arith, two)) ∙ get_or-append a b nan w h)
-
-  pub get_second : length a ≤ w → w - length a < length a → get_or b (w - length a) nan ≡ get_or (lines a b c) w nan
-  get_second h k =
-      let e : w ≡ length a + (w - length a) = omega arith in
-      sym (get_or-append (a ++ b) c nan w (omega (arith, two)) ∙ ap (λ (n : ℕ). get_or (a ++ b) n nan) e ∙ get_or-append-add a b (w - length a) nan)
-
-  pub get_third : length a ≤ w → length a ≤ w - length a → get_or c (w - length a - length a) nan ≡ get_or (lines a b c) w nan
-  get_third h k =
-      let e : w ≡ length (a ++ b) + (w - length a - length a) = omega (arith, two) in
-      sym (ap (λ (n : ℕ). get_or (lines a b c) n nan) e ∙ get_or-append-add (a ++ b) c (w - length a - length a) nan)
 
 -- ---- the three slices after a step
 
