@@ -1,19 +1,14 @@
 -- Three lists taken as one: what is stored at a place of the one is stored in the first, the second or the third. Three slices that are the same after one
 -- step and after the next are the same after both. Assumes nothing.
 use mathlib.Core.Path.{◌≡◌, refl, sym, ap, ◌∙◌}
-use mathlib.Core.List.{List, [], ◌∷◌, ◌++◌}
+use mathlib.Core.List.{List, ◌++◌}
 use Prim.Native.Nat.{ℕ, ◌+◌, ◌-◌, ◌*◌, ◌≤◌, ◌<◌}
-use native.Mathlib.Nat.{zero-add, suc-add}
 use native.Mathlib.Omega.{arith}
 use lib.ListN.{length, set, length-append}
-use lib.Seq.{set-append_left}
 use lib.Ieee.{Float}
+use Rattle.std.proofs.lemmas.List.{set-append_left, set-append_right}
 use Rattle.trim.specs.declared.moving.Lines.{Lines}
 use Rattle.trim.specs.Words.{lines, Even, whole, EvenLines, SameLines}
-
-set_append_add : {A : Type 0} (xs ys : List A) (k : ℕ) (x : A) → set (xs ++ ys) (length xs + k) x ≡ xs ++ set ys k x
-set_append_add [] ys k x = ap (λ (n : ℕ). set ys n x) (zero-add k)
-set_append_add {A} (y ∷ xs) ys k x = rw (suc-add (length xs) k) (ap (λ (l : List A). y ∷ l) (set_append_add xs ys k x))
 
 length_lines : (a b c : List Float) → Even a b c → length (lines a b c) ≡ 3 * length a
 length_lines a b c even = omega (arith, length-append (a ++ b) c, length-append a b, even.second, even.third)
@@ -26,14 +21,12 @@ module _ (a b c : List Float) (even : Even a b c) (w : ℕ) where
   put_first x h = sym (set-append_left (a ++ b) c w x (omega (arith, two)) ∙ ap (λ (l : List Float). l ++ c) (set-append_left a b w x h))
 
   pub put_second : (x : Float) → length a ≤ w → w - length a < length a → lines a (set b (w - length a) x) c ≡ set (lines a b c) w x
-  put_second x h k =
-      let e : w ≡ length a + (w - length a) = omega arith in
-      sym (set-append_left (a ++ b) c w x (omega (arith, two)) ∙ ap (λ (l : List Float). l ++ c) (ap (λ (n : ℕ). set (a ++ b) n x) e ∙ set_append_add a b (w - length a) x))
+  put_second x h k = sym (set-append_left (a ++ b) c w x (omega (arith, two)) ∙ ap (λ (l : List Float). l ++ c) (set-append_right a b (length a) w x refl h))
 
   pub put_third : (x : Float) → length a ≤ w → length a ≤ w - length a → lines a b (set c (w - length a - length a) x) ≡ set (lines a b c) w x
   put_third x h k =
-      let e : w ≡ length (a ++ b) + (w - length a - length a) = omega (arith, two) in
-      sym (ap (λ (n : ℕ). set (lines a b c) n x) e ∙ set_append_add (a ++ b) c (w - length a - length a) x)
+      let e : w - (length a + length a) ≡ w - length a - length a = omega arith in
+      sym (set-append_right (a ++ b) c (length a + length a) w x two (omega arith) ∙ ap (λ (n : ℕ). a ++ b ++ set c n x) e)
 
 -- ---- the three slices after a step
 
