@@ -18,6 +18,7 @@ ghost use Rattle.trim.specs.Words.{Front, SameLines};
 
 use meshes::MeshSize;
 use moving::Lines;
+use settings::Trimming;
 
 // The faces near a usable point move to the front and are renumbered; the table has the new number of each vertex that they use.
 fn keep_near(
@@ -53,7 +54,7 @@ fn trim_within(
     requires meshed { Meshed vertices.old faces.old }
     requires trim_room { TrimRoom vertices.old faces.old table.old lines.old.a.now lines.old.b.now lines.old.c.now }
     ensures same { SameLines lines.old lines.new }
-    ensures trimmed { Trimmed (Some distance) (usables points.now) vertices.old faces.old result vertices.new
+    ensures trimmed { Trimmed (Within distance) (usables points.now) vertices.old faces.old result vertices.new
         faces.new }
 {
     let size = keep_near(distance, points, vertices, faces, table);
@@ -85,7 +86,9 @@ fn trim_as_chosen(
             vertices: vertices.len() / 3,
             faces: faces.len() / 3,
         },
-        Some(distance) => { trim_within(distance, points, vertices, faces, table, lines) }
+        Trimming::Within(distance) => {
+            trim_within(distance, points, vertices, faces, table, lines)
+        }
     }
 }
 

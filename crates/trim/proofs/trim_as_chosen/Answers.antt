@@ -2,5 +2,5 @@
 use Rattle.trim.proofs.WithinDistance.{trimmed_off}
 use Rattle.trim.proofs.trim_as_chosen.Goals as goal
 
-pub returns-in-None-clause-trimmed : goal.returns-in-None-clause-trimmed
-returns-in-None-clause-trimmed c = rw c.in-None.is (trimmed_off c.requires.meshed)
+pub returns-in-Off-clause-trimmed : goal.returns-in-Off-clause-trimmed
+returns-in-Off-clause-trimmed c = rw c.in-Off.is (trimmed_off c.requires.meshed)
