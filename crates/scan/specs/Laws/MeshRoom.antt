@@ -1,20 +1,20 @@
 -- The untrimmed mesh as two flat lists: V places and F triples of numbers below V, oriented or not; V is at most 3N and 3F fits a u32. By the numbering at
 -- first use and the bounds of the crate `closed`. Assumes nothing.
-use Rattle.std.specs.Prelude.{◌≡◌, ℕ, ◌-◌, ◌*◌, ◌≤◌, ◌<◌, length, get_or, Float}
-use Rattle.std.proofs.Math.Path.{refl, sym}
-use Rattle.std.proofs.Common.{◌∙◌, mul_assoc, arith}
+use Rattle.std.specs.Prelude.{◌≡◌, ℕ, ◌*◌, ◌≤◌, ◌<◌, length, get_or, Float}
+use Rattle.std.proofs.Math.Path.{refl}
+use Rattle.std.proofs.Common.{arith}
 use mathlib.Core.List.{List, [], ◌∷◌}
-use Rattle.std.proofs.Math.Nat.{mul-le-mul}
 use Rattle.std.proofs.Math.ListN.{length-append}
 use Rattle.closed.specs.Faces.{corners}
 use Rattle.closed.specs.Numbering.{mesh}
 use Rattle.closed.proofs.Laws.Renumber.{in_at}
 use Rattle.closed.proofs.Laws.Turning.{length_corners}
 use Rattle.closed.proofs.Laws.Mesh.{mesh_length, corner_lt}
-use Rattle.closed.proofs.Laws.Bounds.{faces_le, vertices_le}
+use Rattle.closed.proofs.Laws.Bounds.{vertices_le}
 use Rattle.grid.specs.declared.Lattice.{Lattice}
 use Rattle.grid.specs.Grid.{Counts}
 use Rattle.cells.specs.Extraction.{count_x, count_y, count_z, below, edge_faces, vertex_edges, extracted_faces, extracted_vertices, edge_point, points_of}
+use Rattle.cells.specs.Laws.Cells as Cells
 use Rattle.meshes.specs.FlatMesh.{vertex_count, Meshed}
 
 module _ (values : List Float) (l : Lattice) (iso : Float) where
@@ -56,13 +56,4 @@ module _ (values : List Float) (l : Lattice) (iso : Float) where
 
     -- five a cell
     pub few_faces : length (edge_faces values l iso) ≤ 5 * (count_x l * count_y l * count_z l)
-    unfolding edge_faces
-    few_faces =
-        let x = count_x l in
-        let y = count_y l in
-        let z = count_z l in
-        let one : (z - 1) * 5 ≤ z * 5 = mul-le-mul {n₁ = z - 1} {m₁ = 5} {n₂ = z} {m₂ = 5} (omega arith) (omega arith) in
-        let two : (y - 1) * ((z - 1) * 5) ≤ y * (z * 5) = mul-le-mul (omega arith) one in
-        let three : (x - 1) * ((y - 1) * ((z - 1) * 5)) ≤ x * (y * (z * 5)) = mul-le-mul (omega arith) two in
-        let same : x * (y * (z * 5)) ≡ x * y * z * 5 = sym (mul_assoc x y (z * 5)) ∙ sym (mul_assoc (x * y) z 5) in
-        omega (arith, faces_le x y z (below values l iso), three, same)
+    few_faces = Cells.few_faces values l iso c
