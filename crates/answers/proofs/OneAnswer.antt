@@ -8,6 +8,9 @@ use Rattle.answers.proofs as fn
 pub refusal_number : OneOutcome contract.Refusal.number.ended fn.Refusal.number.Reads.Post
 refusal_number κs args o o' p q = same p q & refl
 
+pub number_of : OneOutcome contract.number_of.ended fn.number_of.Reads.Post
+number_of κs args o o' p q = same p q & refl
+
 pub answer_refused : OneOutcome contract.Answer.refused.ended fn.Answer.refused.Reads.Post
 answer_refused κs args o o' p q = same p q & refl
 

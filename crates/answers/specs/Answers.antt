@@ -34,18 +34,18 @@ abbrev pub accepts : Verdict → Bool
 accepts v = is_ok v
 
 -- a refusal has every other answer field zero
-abbrev pub refused : Refusal → Answer
-refused r = record { number = refusal_number r; usable = 0; vertices = 0; faces = 0; level = zero32; low = zeros32 3; high = zeros32 3 }
+abbrev pub refused : Verdict → Answer
+refused v = record { number = number_of v; usable = 0; vertices = 0; faces = 0; level = zero32; low = zeros32 3; high = zeros32 3 }
 
 -- what is answered under a verdict: under acceptance, what there is to answer
 abbrev pub answer_under : Verdict → Answer → Answer
 answer_under (Ok t) made = made
-answer_under (Err r) made = refused r
+answer_under (Err r) made = refused (Err r)
 
 -- what is answered in the end
 abbrev pub told : Result Answer Refusal → Answer
 told (Ok a) = a
-told (Err r) = refused r
+told (Err r) = refused (Err r)
 
 -- ---- checks in a row
 

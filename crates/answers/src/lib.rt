@@ -3,7 +3,7 @@
 #![tactic(auto)]
 
 ghost use Rattle.std.specs.Prelude.{◌≡◌};
-ghost use Rattle.answers.specs.Answers.{refusal_number, refused, told};
+ghost use Rattle.answers.specs.Answers.{refusal_number, number_of, refused, told};
 
 // Why a call is refused, in the order of checking.
 #[derive(Clone, Copy)]
@@ -52,13 +52,23 @@ impl Refusal {
     }
 }
 
+// 01's number of what a check answers: 0 where it accepts.
+pub fn number_of(verdict: Result<(), Refusal>) -> u32
+    ensures { result ≡ number_of verdict }
+{
+    match verdict {
+        Ok(()) => 0,
+        Err(refusal) => refusal.number(),
+    }
+}
+
 impl Answer {
     // "A refusal has every other answer field zero."
-    pub fn refused(refusal: Refusal) -> Answer
-        ensures { result ≡ refused refusal }
+    pub fn refused(verdict: Result<(), Refusal>) -> Answer
+        ensures { result ≡ refused verdict }
     {
         Answer {
-            number: refusal.number(),
+            number: number_of(verdict),
             usable: 0,
             vertices: 0,
             faces: 0,
@@ -74,7 +84,7 @@ impl Answer {
     {
         match outcome {
             Ok(answer) => answer,
-            Err(refusal) => Answer::refused(refusal),
+            Err(refusal) => Answer::refused(Err(refusal)),
         }
     }
 }

@@ -58,7 +58,7 @@ module _ (xs : List Float) (st : Settings) (before : Slices) (r : Answer) (after
       let ps = usables xs in
       let refusal = refuses verdict (λ z. some (number_told xs st before r after met ∙ z)) in
       let none = refusal.1 in
-      let told : r ≡ refused refusal.0 = met.answered ∙ ap (λ (v : Verdict). answer_under v (accepted_answer ps st)) none in
+      let told : r ≡ refused (Err refusal.0) = met.answered ∙ ap (λ (v : Verdict). answer_under v (accepted_answer ps st)) none in
       let no-vertices = met.vertices ∙ ap (λ (v : Verdict). padded zero32 (length before.vertices) (cond (accepts v) (kept_vertices ps st) [])) none in
       let no_faces = met.faces ∙ ap (λ (v : Verdict). padded 0 (length before.faces) (cond (accepts v) (corners (kept_faces ps st)) [])) none in
       record {

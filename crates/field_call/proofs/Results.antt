@@ -43,11 +43,11 @@ long_enough depth room {v} {w} h e = e ∙ sym (ap (λ (b : Bool). (ScratchRoom 
 
 module _ (xs : List Float) (st : Settings) (lent : Lengths) (field : List Float) {v : Verdict} (is : v ≡ field_verdict xs st lent (length field)) where
   pub field_refused : (field' : List Float) (x : Refusal) → v ≡ Err x → field' ≡ zeros32 (length field)
-      → FieldShown (field_results xs st lent (length field)) (refused x) field field'
+      → FieldShown (field_results xs st lent (length field)) (refused (Err x)) field field'
   unfolding field_results
   field_refused field' x e z =
       let ps = usables xs in
-      subst (λ (u : Verdict). FieldShown (field_under u ps st) (refused x) field field') (sym e ∙ is)
+      subst (λ (u : Verdict). FieldShown (field_under u ps st) (refused (Err x)) field field') (sym e ∙ is)
       (record { answered = refl; values = z ∙ ap zeros32 (omega arith) })
 
   pub field_ready : v ≡ Pass → ChecksPassed xs st lent × (8 ^ st.depth ≤ length field)

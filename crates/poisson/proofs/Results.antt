@@ -54,7 +54,7 @@ module _ (xs : List Float) (st : Settings) (lent : Lengths) {v : Verdict}
       let l = late_verdict (usables xs) st lent in
       let whole = first_checks xs st lent ∙ ap (λ (u : Verdict). u then l) (sym is ∙ e) in
       subst (λ (a : Result Answer Refusal). Shown (results_under (verdict_of xs st lent) (usables xs) st) (told a) vs fs) (sym o)
-      (subst (λ (u : Verdict). Shown (results_under u (usables xs) st) (refused x) vs fs) (sym whole) (refused_shown (usables xs) st vs fs x))
+      (subst (λ (u : Verdict). Shown (results_under u (usables xs) st) (refused (Err x)) vs fs) (sym whole) (refused_shown (usables xs) st vs fs x))
 
   pub first_ready : v ≡ Pass → ChecksPassed xs st lent
   first_ready t =
@@ -97,7 +97,7 @@ module _ (ps : List Point) (st : Settings) (lent : Lengths) (counts : MeshSize) 
       let k = mesh_verdict (length (kept_faces ps st)) in
       let whole = late_checks ps st lent ∙ ap (λ (u : Verdict). u then k) (sym same ∙ e) in
       subst (λ (a : Result Answer Refusal). Shown (results_under (late_verdict ps st lent) ps st) (told a) vs fs) (sym o)
-      (subst (λ (u : Verdict). Shown (results_under u ps st) (refused x) vs fs) (sym whole) (refused_shown ps st vs fs x))
+      (subst (λ (u : Verdict). Shown (results_under u ps st) (refused (Err x)) vs fs) (sym whole) (refused_shown ps st vs fs x))
 
   pub mesh_room : v ≡ Pass → (3 * counts.vertices ≤ lent.vertices) × (3 * counts.faces ≤ lent.faces)
   mesh_room t =

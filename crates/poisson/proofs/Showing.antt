@@ -15,7 +15,7 @@ use Rattle.answers.specs.Answers.{Verdict, Pass, refused, told, ◌lets◌}
 use Rattle.scan.specs.Reconstruction.{accepted_answer, kept_vertices, kept_faces, results_under}
 use Rattle.poisson.specs.Words.{Shown}
 
-pub refused_shown : (ps : List Point) (st : Settings) (vs : List Float) (fs : List ℕ) (x : Refusal) → Shown (results_under (Err x) ps st) (refused x) vs fs
+pub refused_shown : (ps : List Point) (st : Settings) (vs : List Float) (fs : List ℕ) (x : Refusal) → Shown (results_under (Err x) ps st) (refused (Err x)) vs fs
 refused_shown ps st vs fs x =
     record { answered = refl; v_room = omega arith; v_held = refl; v_count = refl; f_room = omega arith; f_held = refl; f_count = refl }
 

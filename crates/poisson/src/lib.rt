@@ -82,7 +82,7 @@ fn reconstruct(
     check_mesh(counts, lengths)?;
     let v = 3 * counts.vertices;
     let w = 3 * counts.faces;
-    let size = scan::make_mesh(
+    let size = scan::mesh_in_grids(
         points,
         settings,
         g,
@@ -93,7 +93,7 @@ fn reconstruct(
         edges,
     );
     let k = 3 * size.vertices;
-    scan::make_answer(
+    scan::answer_or_refuse(
         points::usable_count(points),
         level,
         size.faces,

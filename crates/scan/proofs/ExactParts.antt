@@ -1,8 +1,8 @@
 -- Once the checks pass, all scratch is at least as long as stated, which is what the stages ask (`lent_room`), so its fronts have just the stated lengths
--- (`front_length`). Assumes nothing.
-use Rattle.std.specs.Prelude.{◌≡◌, ◌≤◌, ◌^◌, ◌++◌, List, ℕ, take, drop, length, Float}
-use Rattle.std.proofs.Common.{ap, subst, ◌∙◌, arith}
-use Rattle.std.proofs.lemmas.List.{length-append, length-drop, length-replicate}
+-- (`front_length`), and come back in their places (`front_back`, `cleared_is`). Assumes nothing.
+use Rattle.std.specs.Prelude.{◌≡◌, ◌≤◌, ◌^◌, ◌++◌, List, ℕ, take, drop, replicate, length, Float}
+use Rattle.std.proofs.Common.{sym, ap, ap₂, subst, ◌∙◌, arith}
+use Rattle.std.proofs.lemmas.List.{take_at, drop_at, take-append-drop, length-append, length-drop, length-replicate}
 use Rattle.lists.specs.Lists.{zero32, zeros32}
 use Rattle.meshes.specs.declared.MeshSize.{MeshSize}
 use Rattle.points.specs.declared.point.Point.{Point}
@@ -14,11 +14,22 @@ use Rattle.settings.specs.declared.Lengths.{Lengths}
 use Rattle.settings.specs.Laws.Passed.{Fit, ChecksPassed}
 use Rattle.scan.specs.Reconstruction.{field_for}
 use Rattle.scan.specs.Laws.FieldLength.{field_length}
-use Rattle.scan.specs.Words.{Lent, Solved, MeshMade, cleared_front}
+use Rattle.scan.specs.Words.{Lent, Solved, GridsMade, cleared_front}
 
 -- a front of n elements has as many
 pub front_length : {A : Type 0} {n m : ℕ} (s : List A) → n ≡ m → m ≤ length s → length (take n s) ≡ m
 front_length {n = n} s e h = length-take-le n s (omega (arith, e, h)) ∙ e
+
+-- one that was lent and came back as x stands before what stood past it
+pub front_back : {A : Type 0} (n : ℕ) (s x : List A) → n ≤ length s → length x ≡ length (take n s) → (take n (x ++ drop n s) ≡ x) × (drop n (x ++ drop n s) ≡ drop n s)
+front_back n s x h l = let e = l ∙ length-take-le n s h in (take_at x (drop n s) n e, drop_at x (drop n s) n e)
+
+-- one that was cleared
+pub cleared_is : {A : Type 0} (z : A) {n m : ℕ} (s : List A) {s' : List A} → n ≡ m → m ≤ length s
+    → take n s' ≡ replicate (length (take n s)) z → drop n s' ≡ drop n s → s' ≡ replicate m z ++ drop m s
+cleared_is z {n} s {s'} e h cleared beside =
+    sym (take-append-drop n s')
+    ∙ ap₂ ◌++◌ (cleared ∙ ap (λ (k : ℕ). replicate k z) (front_length s e h)) (beside ∙ ap (λ (k : ℕ). drop k s) e)
 
 pub lent_room : {xs : List Float} {st : Settings} (long : Lengths) {lent : Grids} {distances : List Float}
     → ChecksPassed xs st long → long.grids ≡ grid_lengths lent → long.distances ≡ length distances → Lent xs st lent distances
@@ -62,7 +73,7 @@ solved_lengths {ps} {xs} {st} {before = before} lent solved =
 
 pub made_lengths : {ps : List Point} {xs : List Float} {st : Settings} {r : MeshSize} {vs vs' : List Float} {fs fs' : List ℕ} {first before after : Grids}
     {distances : List Float} {edges edges' : List ℕ}
-    → Lent xs st first distances → SameLengths first before → MeshMade ps st r vs vs' fs fs' before after edges edges' → SameLengths first after
+    → Lent xs st first distances → SameLengths first before → GridsMade ps st r vs vs' fs fs' before after edges edges' → SameLengths first after
 made_lengths {st = st} {before = before} lent so_far made =
     let n = 8 ^ st.depth in
     record {

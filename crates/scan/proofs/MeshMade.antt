@@ -5,15 +5,13 @@ use mathlib.Core.List.{List}
 use Prim.Native.Nat.{ℕ, ◌*◌, ◌^◌, ◌≤◌}
 use native.Mathlib.Omega.{arith}
 use lib.ListN.{length, take}
-use lib.Seq.{length-take-le}
 use lib.Ieee.{Float}
 use Rattle.lists.specs.Laws.Tabulate.{length_tabulate}
 use Rattle.closed.specs.Faces.{Face, corners, faces}
 use Rattle.closed.proofs.Laws.Turning.{faces_corners, length_corners}
 use Rattle.grid.specs.declared.Grid.{Grid}
 use Rattle.grid.specs.declared.Lattice.{Lattice}
-use Rattle.grid.specs.Grid.{Sides, Counts, lattice_of, all_nodes}
-use Rattle.grid.specs.Laws.Rows.{cube_counts}
+use Rattle.grid.specs.Grid.{Counts, lattice_of}
 use Rattle.ending.specs.declared.Grids.{Grids}
 use Rattle.points.specs.declared.point.Point.{Point}
 use Rattle.settings.specs.declared.Settings.{Settings}
@@ -25,47 +23,30 @@ use Rattle.orientation.specs.Orientation.{oriented_faces}
 use Rattle.orientation.specs.Laws.Orienting.{oriented_length, oriented_meshed}
 use Rattle.trim.specs.Trim.{TrimRoom, trimmed_vertices, trimmed_faces}
 use Rattle.scan.specs.Reconstruction.{grid_for, lattice_for, field_for, level_for, whole_vertices, whole_faces, vertex_total, face_total, kept_vertices, kept_faces}
-use Rattle.scan.specs.Words.{MeshAsked}
+use Rattle.scan.specs.Words.{MeshAsked, GridsAsked}
 use Rattle.scan.specs.Laws.MeshRoom.{count_vertices, length_faces, extracted_meshed, few_vertices, few_faces}
+use Rattle.scan.proofs.ExactParts.{front_length}
 use Rattle.scan.proofs.PutTogether.{lattice_size}
 
--- what is asked, of the parts of exactly the stated lengths
-pub record Parts (ps : List Point) (st : Settings) (g : Grid) (level : Float)
-    (vs : List Float) (fs : List ℕ) (s0 a b c : List Float) (edges : List ℕ) : Type 0 where
-  pub grid : g ≡ grid_for ps st
-  pub depth : all_nodes g ≡ 8 ^ st.depth
-  pub level_is : level ≡ level_for ps st
-  pub places : length vs ≡ 3 * vertex_total ps st
-  pub triples : length fs ≡ 3 * face_total ps st
-  pub field : s0 ≡ field_for ps st
-  pub size0 : length s0 ≡ 8 ^ st.depth
-  pub size1 : length a ≡ 8 ^ st.depth
-  pub size2 : length b ≡ 8 ^ st.depth
-  pub size3 : length c ≡ 8 ^ st.depth
-  pub numbers : edges ≡ edge_table (field_for ps st) (lattice_for ps st) (level_for ps st)
-
+-- what is asked of the grids, of their fronts of exactly the stated lengths
 pub parts : {ps : List Point} {st : Settings} {g : Grid} {level : Float} {vs : List Float} {fs : List ℕ} {lent : Grids} {edges : List ℕ} {n m : ℕ}
-    → MeshAsked ps st g level vs fs lent edges → n ≡ 8 ^ st.depth → m ≡ 3 * n
-    → Parts ps st g level vs fs (take n lent.s0.now) (take n lent.s1.now) (take n lent.s2.now) (take n lent.s3.now) (take m edges)
+    → GridsAsked ps st g level vs fs lent edges → n ≡ 8 ^ st.depth → m ≡ 3 * n
+    → MeshAsked ps st g level vs fs (take n lent.s0.now) (take n lent.s1.now) (take n lent.s2.now) (take n lent.s3.now) (take m edges)
 parts {lent = lent} {edges = edges} ask nodes triple =
     record {
       grid = ask.grid;
+      sides = ask.sides;
       depth = ask.depth;
       level_is = ask.level_is;
       places = ask.places;
       triples = ask.triples;
       field = ap (λ (k : ℕ). take k lent.s0.now) nodes ∙ ask.field;
-      size0 = length-take-le _ _ (omega (arith, ask.room0, nodes)) ∙ nodes;
-      size1 = length-take-le _ _ (omega (arith, ask.room1, nodes)) ∙ nodes;
-      size2 = length-take-le _ _ (omega (arith, ask.room2, nodes)) ∙ nodes;
-      size3 = length-take-le _ _ (omega (arith, ask.room3, nodes)) ∙ nodes;
+      size0 = front_length _ nodes ask.room0;
+      size1 = front_length _ nodes ask.room1;
+      size2 = front_length _ nodes ask.room2;
+      size3 = front_length _ nodes ask.room3;
       numbers = ap (λ (k : ℕ). take k edges) (triple ∙ ap (λ (k : ℕ). 3 * k) nodes) ∙ ask.numbers;
     }
-
--- a grid's lattice has counts that extraction takes
-pub cube_lattice : (g : Grid) → Sides g.nodes → Counts (lattice_of g).counts
-unfolding lattice_of
-cube_lattice g s = cube_counts s
 
 -- what extraction writes is a mesh
 pub mesh_meshed : {values : List Float} {l : Lattice} {level : Float} {vs : List Float} {fs : List ℕ} → Mesh values l level vs fs → Meshed vs fs
@@ -74,7 +55,7 @@ mesh_meshed {values} {l} {level} {vs} {fs} made =
     (subst (λ (f : List ℕ). Meshed (extracted_vertices values l level) f) (sym made.triples) (extracted_meshed values l level))
 
 module _ {ps : List Point} {st : Settings} {g : Grid} {level : Float} {vs : List Float} {fs : List ℕ} {s0 a b c : List Float} {edges : List ℕ}
-    (ask : Parts ps st g level vs fs s0 a b c edges) {l : Lattice} (block : l ≡ lattice_of g) (counts : Counts l.counts) where
+    (ask : MeshAsked ps st g level vs fs s0 a b c edges) {l : Lattice} (block : l ≡ lattice_of g) (counts : Counts l.counts) where
   -- the lattice, and its size
   same_lattice : l ≡ lattice_for ps st
   same_lattice = block ∙ ap lattice_of ask.grid

@@ -33,6 +33,22 @@ field_and_level κs args o o' p q =
 
 pub make_mesh : OneOutcome contract.make_mesh.ended fn.make_mesh.Reads.Post
 make_mesh κs args o o' p q =
+    by_counts (by_thrice p.vertex_count q.vertex_count) (same (sym p.face_count) (sym q.face_count))
+    & refl
+    & refl
+    & refl
+    & refl
+    & same p.places q.places
+    & same p.numbers q.numbers
+    & refl
+    & same p.zero1 q.zero1
+    & same p.zero2 q.zero2
+    & same p.zero3 q.zero3
+    & same p.no_numbers q.no_numbers
+    & refl
+
+pub mesh_in_grids : OneOutcome contract.mesh_in_grids.ended fn.mesh_in_grids.Reads.Post
+mesh_in_grids κs args o o' p q =
     let d = p.1 in
     let e = q.1 in
     by_counts (by_thrice d.vertex_count e.vertex_count) (same (sym d.face_count) (sym e.face_count))
@@ -46,6 +62,9 @@ make_mesh κs args o o' p q =
     (same d.kept4 e.kept4) (same d.kept5 e.kept5) (same d.kept6 e.kept6)
     & same d.no_numbers e.no_numbers
     & refl
+
+pub answer_or_refuse : OneOutcome contract.answer_or_refuse.ended fn.answer_or_refuse.Reads.Post
+answer_or_refuse κs args o o' p q = same p q & refl
 
 pub make_answer : OneOutcome contract.make_answer.ended fn.make_answer.Reads.Post
 make_answer κs args o o' p q = same p q & refl

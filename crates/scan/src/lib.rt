@@ -1,19 +1,18 @@
 // Document 01, the stages of a call in the order of the data's way; the middle of `poisson_reconstruction` in the Rust's poisson.rs. What the two calls take
 // from below: the checks of the points, the grid, which is made once, and the field with its level; then what only the whole call needs, the mesh and the
-// answer. Lent slices may be longer than stated: each stage takes their fronts.
+// answer. Lent grids may be longer than stated: a stage that is lent them as one value takes their fronts.
 #![tactic(auto)]
 
-ghost use Rattle.std.specs.Prelude.{◌≡◌, ◌*◌, ◌≤◌, length, take};
-ghost use Rattle.grid.specs.Grid.{Sides, all_nodes, lattice_of};
+ghost use Rattle.std.specs.Prelude.{◌≡◌, ◌*◌, ◌≤◌, length, take, drop};
+ghost use Rattle.grid.specs.Grid.{Sides, all_nodes};
 ghost use Rattle.points.specs.Points.{given, usables};
 ghost use Rattle.points.specs.Box.{bounds_of};
 ghost use Rattle.answers.specs.Answers.{◌then◌};
 ghost use Rattle.settings.specs.Refusals.{usable_verdict, extent_verdict};
-ghost use Rattle.extract.specs.Words.{Writable};
 ghost use Rattle.surface.specs.Surface.{level_of};
 ghost use Rattle.ending.specs.Slices.{slices_of, SameGrids};
 ghost use Rattle.scan.specs.Reconstruction.{extent_for, lengths_of};
-ghost use Rattle.scan.specs.Words.{GridOver, Lent, Solved, MeshAsked, MeshMade, WholeMade, mesh_outcome};
+ghost use Rattle.scan.specs.Words.{GridOver, Lent, Solved, MeshAsked, MeshMade, GridsAsked, GridsMade, mesh_outcome, trimmed_answer};
 
 use answers::{Answer, Refusal};
 use ending::Grids;
@@ -110,31 +109,86 @@ fn level_of(points: &[f32], settings: Settings, g: Grid, grids: &Grids) -> f32
     surface::level(g, &grids.s0[..n], points, settings.iso_offset)
 }
 
-// The mesh of the field at the front of the first grid, before any trimming: extracted, then oriented. The edge table begins with the numbers of its edges.
-fn make_whole(
+// Extraction, orientation and trim: the returned mesh stands at the front of its slices with zeros past it; the edge table and the three slices are zero.
+pub fn make_mesh(
+    points: &[f32],
+    settings: Settings,
+    g: Grid,
+    level: f32,
+    vertices: &mut [f32],
+    faces: &mut [u32],
+    field: &[f32],
+    a: &mut [f32],
+    b: &mut [f32],
+    c: &mut [f32],
+    edges: &mut [u32],
+) -> MeshSize
+    requires { MeshAsked (usables points.now) settings g level vertices.old faces.old field.now a.old b.old c.old edges.old }
+    ensures { MeshMade (usables points.now) settings result
+        vertices.old vertices.new
+        faces.old faces.new
+        a.old a.new
+        b.old b.new
+        c.old c.new
+        edges.old edges.new }
+{
+    extract::write_mesh(field, g.lattice(), level, edges, vertices, faces);
+    orientation::orient(g, field, vertices, faces);
+    let trimming = settings.trimming;
+    trim::trim(trimming, points, vertices, faces, edges, a, b, c)
+}
+
+// The same at the fronts of longer slices, n elements of each over nodes and 3n of the edge table; past the fronts nothing is touched. The
+// field is lent as the others are, since it stands beside them in one value, and only read.
+fn make_mesh_front(
+    points: &[f32],
+    settings: Settings,
     g: Grid,
     level: f32,
     n: usize,
     vertices: &mut [f32],
     faces: &mut [u32],
-    grids: &Grids,
-    edges: &[u32],
-)
-    requires sides { Sides g.nodes × (n ≡ all_nodes g) }
-    requires room { (n ≤ length grids.now.s0.now) × (3 * n ≤ length edges.now) }
-    requires writable { Writable (take n grids.now.s0.now) (take (3 * n) edges.now) (lattice_of g) level vertices.old
-        faces.old }
-    ensures { WholeMade g (take n grids.now.s0.now) level vertices.old vertices.new faces.old faces.new }
+    field: &mut [f32],
+    a: &mut [f32],
+    b: &mut [f32],
+    c: &mut [f32],
+    edges: &mut [u32],
+) -> MeshSize
+    requires room { (n ≤ length field.old) × (n ≤ length a.old) × (n ≤ length b.old) × (n ≤ length c.old) × (3 * n ≤ length edges.old) }
+    requires asked { MeshAsked (usables points.now) settings g level vertices.old faces.old (take n field.old)
+        (take n a.old) (take n b.old) (take n c.old) (take (3 * n) edges.old) }
+    ensures field_kept { field.new ≡ field.old }
+    ensures made { MeshMade (usables points.now) settings result
+        vertices.old vertices.new
+        faces.old faces.new
+        (take n a.old) (take n a.new)
+        (take n b.old) (take n b.new)
+        (take n c.old) (take n c.new)
+        (take (3 * n) edges.old) (take (3 * n) edges.new) }
+    ensures beside { (drop n a.new ≡ drop n a.old)
+        × (drop n b.new ≡ drop n b.old)
+        × (drop n c.new ≡ drop n c.old)
+        × (drop (3 * n) edges.new ≡ drop (3 * n) edges.old) }
 {
     let e = 3 * n;
-    let field = &grids.s0[..n];
-    extract::write_mesh(field, g.lattice(), level, &edges[..e], vertices, faces);
-    orientation::orient(g, field, vertices, faces);
+    make_mesh(
+        points,
+        settings,
+        g,
+        level,
+        vertices,
+        faces,
+        &field[..n],
+        &mut a[..n],
+        &mut b[..n],
+        &mut c[..n],
+        &mut edges[..e],
+    )
 }
 
-// Extraction, orientation and trim: the returned mesh stands at the front of its slices with zeros past it; the edge table and the second to fourth grid are
-// zero, as far as there are edges and nodes.
-pub fn make_mesh(
+// The same at the fronts of the grids: the field stands in the first, and the edge table and the second to fourth grid are zero, as far as there are edges
+// and nodes.
+pub fn mesh_in_grids(
     points: &[f32],
     settings: Settings,
     g: Grid,
@@ -144,33 +198,24 @@ pub fn make_mesh(
     grids: &mut Grids,
     edges: &mut [u32],
 ) -> MeshSize
-    requires { MeshAsked (usables points.now) settings g level vertices.old faces.old grids.old edges.old }
+    requires { GridsAsked (usables points.now) settings g level vertices.old faces.old grids.old edges.old }
     ensures same { SameGrids grids.old grids.new }
-    ensures made { MeshMade (usables points.now) settings result
+    ensures made { GridsMade (usables points.now) settings result
         vertices.old vertices.new
         faces.old faces.new
         grids.old grids.new
         edges.old edges.new }
 {
     let n = settings::nodes(settings.depth);
-    let e = 3 * n;
-    make_whole(g, level, n, vertices, faces, grids, edges);
-    let trimming = settings.trimming;
-    trim::trim(
-        trimming,
-        points,
-        vertices,
-        faces,
-        &mut edges[..e],
-        &mut grids.s1[..n],
-        &mut grids.s2[..n],
-        &mut grids.s3[..n],
+    make_mesh_front(
+        points, settings, g, level, n, vertices, faces, grids.s0, grids.s1, grids.s2, grids.s3,
+        edges,
     )
 }
 
-// 6, "no face .. after trimming"; or the answer with the box of the returned vertices.
+// 6, "no face .. after trimming", or the answer with the box of the returned vertices.
 #[tactic(auto, unfolding(crate::specs::Words::mesh_outcome))]
-pub fn make_answer(
+pub fn answer_or_refuse(
     usable: usize,
     level: f32,
     faces: usize,
@@ -191,4 +236,11 @@ pub fn make_answer(
         low,
         high,
     })
+}
+
+// The same, told in the end: the refusal is an answer too, whose number 6 stands beside zeros.
+pub fn make_answer(usable: usize, level: f32, faces: usize, vertices: &[f32]) -> Answer
+    ensures { result ≡ trimmed_answer usable level faces vertices.now }
+{
+    Answer::told(answer_or_refuse(usable, level, faces, vertices))
 }

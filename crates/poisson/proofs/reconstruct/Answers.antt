@@ -83,28 +83,28 @@ pub overflow_mul-w : goal.overflow_mul-w
 overflow_mul-w c =
     omega (arith, (known c.of-bounds.ensures c.make_grid-g.ensures c.field_and_level-level.ensures.solved c.count-counts.ensures.counted).few_faces)
 
-pub slice_bounds-make_mesh-end : goal.slice_bounds-make_mesh-end
-slice_bounds-make_mesh-end c =
+pub slice_bounds-mesh_in_grids-end : goal.slice_bounds-mesh_in_grids-end
+slice_bounds-mesh_in_grids-end c =
     let k = known c.of-bounds.ensures c.make_grid-g.ensures c.field_and_level-level.ensures.solved c.count-counts.ensures.counted in
     (room c.args.lengths _ _ k c.check_mesh.ensures c.in_ok-check_mesh.was c.requires.lengths_are).0
 
-pub slice_bounds-make_mesh-end-2 : goal.slice_bounds-make_mesh-end-2
-slice_bounds-make_mesh-end-2 c =
+pub slice_bounds-mesh_in_grids-end-2 : goal.slice_bounds-mesh_in_grids-end-2
+slice_bounds-mesh_in_grids-end-2 c =
     let k = known c.of-bounds.ensures c.make_grid-g.ensures c.field_and_level-level.ensures.solved c.count-counts.ensures.counted in
     sym (length-take-le _ _ (room c.args.lengths _ _ k c.check_mesh.ensures c.in_ok-check_mesh.was c.requires.lengths_are).0)
 
-pub slice_bounds-make_mesh-end-3 : goal.slice_bounds-make_mesh-end-3
-slice_bounds-make_mesh-end-3 c =
+pub slice_bounds-mesh_in_grids-end-3 : goal.slice_bounds-mesh_in_grids-end-3
+slice_bounds-mesh_in_grids-end-3 c =
     let k = known c.of-bounds.ensures c.make_grid-g.ensures c.field_and_level-level.ensures.solved c.count-counts.ensures.counted in
     (room c.args.lengths _ _ k c.check_mesh.ensures c.in_ok-check_mesh.was c.requires.lengths_are).1
 
-pub slice_bounds-make_mesh-end-4 : goal.slice_bounds-make_mesh-end-4
-slice_bounds-make_mesh-end-4 c =
+pub slice_bounds-mesh_in_grids-end-4 : goal.slice_bounds-mesh_in_grids-end-4
+slice_bounds-mesh_in_grids-end-4 c =
     let k = known c.of-bounds.ensures c.make_grid-g.ensures c.field_and_level-level.ensures.solved c.count-counts.ensures.counted in
     sym (length-take-le _ _ (room c.args.lengths _ _ k c.check_mesh.ensures c.in_ok-check_mesh.was c.requires.lengths_are).1)
 
-pub make_mesh-size-requires : goal.make_mesh-size-requires
-make_mesh-size-requires c =
+pub mesh_in_grids-size-requires : goal.mesh_in_grids-size-requires
+mesh_in_grids-size-requires c =
     let over = c.make_grid-g.ensures in
     let field = c.field_and_level-level.ensures.solved in
     let k = known c.of-bounds.ensures over field c.count-counts.ensures.counted in
@@ -131,8 +131,8 @@ make_mesh-size-requires c =
 pub returns-clause-same : goal.returns-clause-same
 returns-clause-same c =
     let field = c.field_and_level-level.ensures in
-    let made = c.make_mesh-size.ensures in (
-      then_same c.args.grids.now c.field_and_level-level.new.grids c.make_mesh-size.new.grids field.same made.same,
+    let made = c.mesh_in_grids-size.ensures in (
+      then_same c.args.grids.now c.field_and_level-level.new.grids c.mesh_in_grids-size.new.grids field.same made.same,
       made_lengths c.requires.lent (solved_lengths c.requires.lent field.solved) made.made,
     )
 
@@ -144,11 +144,11 @@ returns-clause-shown c =
     let fs = c.args.faces.now in
     let v = 3 * c.count-counts.result.vertices in
     let w = 3 * c.count-counts.result.faces in
-    let made = c.make_mesh-size in
+    let made = c.mesh_in_grids-size in
     let done = made.ensures.made in
     mesh_shown (usables c.args.points.now) c.args.settings c.args.lengths _ c.check_mesh.ensures k.vertices k.faces
     (length (take v vs)) (length (take w fs)) made.new.vertices made.new.faces made.result.vertices made.result.faces
     c.usable_count.result (drop v vs) (drop w fs)
     done.vertex_count done.face_count done.places done.numbers field.level_is
     c.usable_count.ensures
-    _ c.in_ok-check_mesh.was c.make_answer.ensures
+    _ c.in_ok-check_mesh.was c.answer_or_refuse.ensures
