@@ -1,5 +1,6 @@
 // The words of a call in the list, one after the other: what they say.
 ghost use Rattle.std.specs.Prelude.{◌≤◌, length};
+ghost use Rattle.replay.specs.Words.{EndOf};
 
 use replay::Words;
 use settings::{Settings, Trimming};
@@ -13,7 +14,8 @@ fn trimming(flag: u64, distance: f32) -> Trimming {
 
 // Depth and trimming's flag in decimal; smoothing, offset, distance, iterations and tolerance as patterns.
 pub fn read_settings(words: &mut Words<'_>) -> Settings
-    ensures { length words.new ≤ length words.old }
+    ensures shorter { length words.new ≤ length words.old }
+    ensures rest { EndOf words.old words.new }
 {
     let depth = words.decimal();
     let smoothing = words.hex32();
@@ -34,7 +36,8 @@ pub fn read_settings(words: &mut Words<'_>) -> Settings
 
 // The seven grids, the edge table, the distances, the vertices and the faces.
 pub fn read_lengths(words: &mut Words<'_>) -> [usize; 11]
-    ensures { length words.new ≤ length words.old }
+    ensures shorter { length words.new ≤ length words.old }
+    ensures rest { EndOf words.old words.new }
 {
     let mut lengths = [0usize; 11];
     for length in lengths.iter_mut() {
@@ -45,7 +48,8 @@ pub fn read_lengths(words: &mut Words<'_>) -> [usize; 11]
 
 // As many patterns as `floats` has elements.
 pub fn read_floats(words: &mut Words<'_>, floats: &mut [f32])
-    ensures { length words.new ≤ length words.old }
+    ensures shorter { length words.new ≤ length words.old }
+    ensures rest { EndOf words.old words.new }
 {
     for float in floats.iter_mut() {
         *float = arith::float32(words.hex32());

@@ -1,19 +1,22 @@
 // The words of a grid in the list, one after the other: what each says.
 ghost use Rattle.std.specs.Prelude.{◌≤◌, length};
+ghost use Rattle.replay.specs.Words.{EndOf};
 
 use grid::Lattice;
 use replay::Words;
 
 // Past a word that names what follows.
 pub fn skip_word(words: &mut Words<'_>)
-    ensures { length words.new ≤ length words.old }
+    ensures shorter { length words.new ≤ length words.old }
+    ensures rest { EndOf words.old words.new }
 {
     let _ = words.next();
 }
 
 // Three counts.
 fn read_sides(words: &mut Words<'_>) -> [usize; 3]
-    ensures { length words.new ≤ length words.old }
+    ensures shorter { length words.new ≤ length words.old }
+    ensures rest { EndOf words.old words.new }
 {
     let nx = words.decimal() as usize;
     let ny = words.decimal() as usize;
@@ -23,7 +26,8 @@ fn read_sides(words: &mut Words<'_>) -> [usize; 3]
 
 // A place.
 fn read_origin(words: &mut Words<'_>) -> [f64; 3]
-    ensures { length words.new ≤ length words.old }
+    ensures shorter { length words.new ≤ length words.old }
+    ensures rest { EndOf words.old words.new }
 {
     let x = arith::float64(words.hex());
     let y = arith::float64(words.hex());
@@ -40,7 +44,8 @@ pub struct Header {
 
 // `nx ny nz origin X Y Z step H iso I values`
 pub fn read_header(words: &mut Words<'_>) -> Header
-    ensures { length words.new ≤ length words.old }
+    ensures shorter { length words.new ≤ length words.old }
+    ensures rest { EndOf words.old words.new }
 {
     let counts = read_sides(words);
     skip_word(words);
@@ -62,7 +67,8 @@ pub fn read_header(words: &mut Words<'_>) -> Header
 
 // One value a node, by node number.
 pub fn read_values(words: &mut Words<'_>, values: &mut [f32])
-    ensures { length words.new ≤ length words.old }
+    ensures shorter { length words.new ≤ length words.old }
+    ensures rest { EndOf words.old words.new }
 {
     for value in values.iter_mut() {
         *value = arith::float32(words.hex32());

@@ -1,2 +1,3 @@
--- What the lists of worked values are made of.
+-- What the lists of worked values are made of, then laws.
 pub mod Words
+pub mod Laws

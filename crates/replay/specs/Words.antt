@@ -30,6 +30,10 @@ TakesWord text word rest =
     (rest ≡ drop (end_of text) text)
     × MatchOption word (word_of text ≡ []) (λ w. (w.now ≡ word_of text) × (0 < length w.now))
 
+-- what a reader leaves: an end of the text that there was
+abbrev pub EndOf : (text rest : List ℕ) → Type 0
+EndOf text rest = rest ≡ drop (length text - length rest) text
+
 -- the value of a digit 0..9 or A..F, and 0 of any other byte
 abbrev pub digit_of : ℕ → ℕ
 digit_of b = cond (ltb b 48) 0 (cond (ltb b 58) (b - 48) (cond (ltb b 65) 0 (cond (ltb b 71) (b - 55) 0)))
