@@ -24,3 +24,9 @@ OneOutcome f says =
 -- the same among the results that the type allows: an array's type says how long it is, so its contract need not
 abbrev pub OneOutcomeAmong : (f : Ended) → ((κs : Lfts f.signature.lifetimes) → Res f.signature κs → Type 0) → Says f → Type 0
 OneOutcomeAmong f allows says = OneOutcome f (λ κs args r at-exit. allows κs r × says κs args r at-exit)
+
+-- the same of what is seen of an outcome, where a type holds more than a clause speaks of
+abbrev pub OneOutcomeSeen : (f : Ended) {B : Type 0} → ((κs : Lfts f.signature.lifetimes) (args : Args f.signature κs) → Res f.signature κs × Lasts f κs args → B) → Says f → Type 0
+OneOutcomeSeen f seen says =
+    (κs : Lfts f.signature.lifetimes) (args : Args f.signature κs) (o o' : Res f.signature κs × Lasts f κs args)
+    → says κs args o.0 (at_exit f κs args o.1) → says κs args o'.0 (at_exit f κs args o'.1) → seen κs args o ≡ seen κs args o'
