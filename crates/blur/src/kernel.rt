@@ -54,11 +54,15 @@ impl Kernel {
         ensures { KernelOf sigma result }
     {
         let radius = Kernel::radius_of(sigma);
-        let mut weights = [0.0; 37];
+        // in place: an array that is moved into the struct costs a call of `memcpy`
+        let mut kernel = Kernel {
+            radius,
+            weights: [0.0; 37],
+        };
         for t in 0..radius + radius + 1 {
-            weights[t] = weight(sigma, radius, t);
+            kernel.weights[t] = weight(sigma, radius, t);
         }
-        Kernel { radius, weights }
+        kernel
     }
 
     // The weights of its offsets, without what stands behind them.

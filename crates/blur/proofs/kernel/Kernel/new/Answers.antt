@@ -10,14 +10,15 @@ use Rattle.blur.proofs.kernel.Kernel.new.Goals as goal
 
 pub loop-t-init : goal.loop-t-init
 unfolding tabulate
-loop-t-init c = (padded_none zero32 37, length-replicate 37 zero32, refl)
+loop-t-init c = (padded_none zero32 37, length-replicate 37 zero32, refl, refl)
 
 pub loop-t-preserved : goal.loop-t-preserved
 loop-t-preserved c =
     let f : ℕ → Float = λ k. weight_of c.args.sigma (reach_of c.radius_of-radius.result k) in (
       padded_more zero32 37 (tabulate c.loop-t.t f) c.weight.result c.loop-t.invariant.0 (length_tabulate c.loop-t.t f) (omega arith)
           ∙ ap (padded zero32 37) (ap (λ (w : Float). tabulate c.loop-t.t f ++ (w ∷ [])) c.weight.ensures ∙ sym (tabulate_snoc c.loop-t.t f)),
-      length-set c.loop-t.weights _ _ ∙ c.loop-t.invariant.1,
+      length-set c.loop-t.kernel.weights _ _ ∙ c.loop-t.invariant.1,
+      c.loop-t.invariant.2,
       refl,
     )
 
@@ -26,8 +27,8 @@ unfolding kernel_of
 returns c =
     let all : c.loop-t.t ≡ offset_count c.radius_of-radius.result = omega arith in
     record {
-      reach = c.radius_of-radius.ensures;
-      most = omega arith;
+      reach = c.loop-t.invariant.2 ∙ c.radius_of-radius.ensures;
+      most = omega (arith, c.loop-t.invariant.2);
       room = c.loop-t.invariant.1;
       all =
           c.loop-t.invariant.0

@@ -6,4 +6,8 @@ use Rattle.blur.specs.Blur.{weight_of, reach_of, offset_count}
 use Rattle.blur.proofs.kernel.Kernel.new.Given as goal
 
 abbrev pub invariant-loop-t : goal.invariant-loop-t
-invariant-loop-t l = (l.weights ≡ padded zero32 37 (tabulate l.t (λ k. weight_of l.sigma (reach_of l.radius k)))) × (length l.weights ≡ 37) × (l.t-end ≡ offset_count l.radius)
+invariant-loop-t l =
+    (l.kernel.weights ≡ padded zero32 37 (tabulate l.t (λ k. weight_of l.sigma (reach_of l.radius k))))
+    × (length l.kernel.weights ≡ 37)
+    × (l.kernel.radius ≡ l.radius)
+    × (l.t-end ≡ offset_count l.radius)
