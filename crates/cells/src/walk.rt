@@ -29,42 +29,32 @@ pub trait Visit {
     ghost ready_next: { (s t : Self) (fs gs hs : List Face) → Ready s (fs ++ gs ++ hs) → Visited s t fs → Ready t gs };
 }
 
-// The surface, and what is made once and read at each of its cells: how far the edges of a cell lie from its first, and the table of triangles.
+// The surface, and what is made once and read at each of its cells: how far the edges of a cell lie from its first, and the table of triangles. Both are
+// lent, so that a walk stays small: the table's 4 KiB stand once on the stack, and are not copied.
 #[derive(Drop)]
 struct Walk<'a> {
     surface: Isosurface<'a>,
-    offsets: [usize; 12],
-    triangles: [i8; 4096],
+    offsets: &'a [usize; 12],
+    triangles: &'a [i8; 4096],
     ghost sampled: { Sampled surface },
-    ghost its_offsets: { offsets ≡ edge_offsets (count_y surface.lattice) (count_z surface.lattice) },
-    ghost its_table: { triangles ≡ flat_table },
+    ghost its_offsets: { offsets.now ≡ edge_offsets (count_y surface.lattice) (count_z surface.lattice) },
+    ghost its_table: { triangles.now ≡ flat_table },
 }
 
-impl<'a> Walk<'a> {
-    fn over(surface: Isosurface<'a>) -> Walk<'a>
-        requires { Sampled surface }
-        ensures { result.surface ≡ surface.entry }
-    {
-        Walk {
-            surface,
-            offsets: edge_offsets(surface.lattice),
-            triangles: cubes::triangle_table(),
-        }
-    }
-
+impl Walk<'_> {
     // The faces of a case over the edges from `first` on, in the order of its row.
     fn visit_row<V: Visit>(&self, visitor: &mut V, first: Edge, case: usize)
-        requires { EdgesIn self.now.offsets first.0 (3 * length self.now.surface.values.now)
+        requires { EdgesIn self.now.offsets.now first.0 (3 * length self.now.surface.values.now)
             × (case < 256)
-            × V.Ready visitor.old (row_faces self.now.offsets first.0 case) }
-        ensures { V.Visited visitor.old visitor.new (row_faces self.now.offsets first.0 case) }
+            × V.Ready visitor.old (row_faces self.now.offsets.now first.0 case) }
+        ensures { V.Visited visitor.old visitor.new (row_faces self.now.offsets.now first.0 case) }
     {
-        for k in 0..cubes::row_faces(&self.triangles, case) {
-            let [a, b, c] = cubes::row_face(&self.triangles, case, k);
+        for k in 0..cubes::row_faces(self.triangles, case) {
+            let [a, b, c] = cubes::row_face(self.triangles, case, k);
             visitor.visit(
-                cell_edge(first, a, &self.offsets),
-                cell_edge(first, b, &self.offsets),
-                cell_edge(first, c, &self.offsets),
+                cell_edge(first, a, self.offsets),
+                cell_edge(first, b, self.offsets),
+                cell_edge(first, c, self.offsets),
             );
         }
     }
@@ -133,6 +123,13 @@ impl Isosurface<'_> {
         requires { Sampled self.now × V.Ready visitor.old (edge_faces self.now.values.now self.now.lattice self.now.iso) }
         ensures { V.Visited visitor.old visitor.new (edge_faces self.now.values.now self.now.lattice self.now.iso) }
     {
-        Walk::over(*self).visit_planes(visitor);
+        let offsets = edge_offsets(self.lattice);
+        let triangles = cubes::triangle_table();
+        let walk = Walk {
+            surface: *self,
+            offsets: &offsets,
+            triangles: &triangles,
+        };
+        walk.visit_planes(visitor);
     }
 }

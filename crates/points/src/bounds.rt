@@ -35,18 +35,22 @@ impl Bounds {
         }
     }
 
-    // The box of the usable points.
+    // The box of the usable points. By an index, as `usable_count` is, and for the same reason.
     pub fn of(points: &[f32]) -> Bounds
         ensures { result ≡ bounds_of (usables points.now) }
     {
         let far = 1.0 / 0.0;
-        let none = Bounds {
+        let mut b = Bounds {
             lo: [far, far, far],
             hi: [-far, -far, -far],
         };
-        Point::all(points)
-            .filter(|p| p.usable())
-            .fold(none, |b, p| b.reach(p))
+        for i in 0..Point::given(points) {
+            let p = Point::read(points, i);
+            if p.usable() {
+                b = b.reach(p);
+            }
+        }
+        b
     }
 
     // The largest extent.

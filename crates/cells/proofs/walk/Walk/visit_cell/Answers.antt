@@ -24,8 +24,8 @@ visit_row-requires g c =
     let a = c.args in
     let s = a.self.now.surface in
     let few : length s.values.now ≤ 16777216 = omega (arith, a.self.now.sampled.nodes, a.self.now.sampled.counts.most) in
-    let row = cell_faces s.values.now (count_y s.lattice) (count_z s.lattice) s.iso a.at.0 c.of.result.0 a.case a.self.now.offsets a.self.now.its_offsets c.of.ensures c.requires.1 in (
-      edges_in (count_y s.lattice) (count_z s.lattice) a.at.0 (length s.values.now) _ c.of.result.0 a.self.now.offsets a.self.now.its_offsets c.of.ensures c.requires.0 refl few,
+    let row = cell_faces s.values.now (count_y s.lattice) (count_z s.lattice) s.iso a.at.0 c.of.result.0 a.case a.self.now.offsets.now a.self.now.its_offsets c.of.ensures c.requires.1 in (
+      edges_in (count_y s.lattice) (count_z s.lattice) a.at.0 (length s.values.now) _ c.of.result.0 a.self.now.offsets.now a.self.now.its_offsets c.of.ensures c.requires.0 refl few,
       subst (λ n. n < 256) (sym c.requires.1) (case_below s.values.now (count_y s.lattice) (count_z s.lattice) s.iso a.at.0),
       subst (g.V.Visit.Ready a.visitor.now) (sym row) c.requires.2,
     )
@@ -35,5 +35,5 @@ returns g c =
     let a = c.args in
     let s = a.self.now.surface in
     subst (g.V.Visit.Visited a.visitor.now c.visit_row.new.visitor)
-    (cell_faces s.values.now (count_y s.lattice) (count_z s.lattice) s.iso a.at.0 c.of.result.0 a.case a.self.now.offsets a.self.now.its_offsets c.of.ensures c.requires.1)
+    (cell_faces s.values.now (count_y s.lattice) (count_z s.lattice) s.iso a.at.0 c.of.result.0 a.case a.self.now.offsets.now a.self.now.its_offsets c.of.ensures c.requires.1)
     c.visit_row.ensures
