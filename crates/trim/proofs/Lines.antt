@@ -10,7 +10,7 @@ use Rattle.std.proofs.lemmas.List.{set-append_left, set-append_right}
 use Rattle.trim.specs.declared.moving.Lines.{Lines}
 use Rattle.trim.specs.Words.{lines, Even, whole, EvenLines, SameLines}
 
-length_lines : (a b c : List Float) → Even a b c → length (lines a b c) ≡ 3 * length a
+pub length_lines : (a b c : List Float) → Even a b c → length (lines a b c) ≡ 3 * length a
 length_lines a b c even = omega (arith, length-append (a ++ b) c, length-append a b, even.second, even.third)
 
 module _ (a b c : List Float) (even : Even a b c) (w : ℕ) where

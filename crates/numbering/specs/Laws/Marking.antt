@@ -15,31 +15,31 @@ use Rattle.meshes.specs.declared.MeshSize.{MeshSize}
 
 -- ---- one edge, and several
 
-mark_kept : (s : Marks) (e : ℕ) → length (mark1 s e).0 ≡ length s.0
+pub mark_kept : (s : Marks) (e : ℕ) → length (mark1 s e).0 ≡ length s.0
 mark_kept s e = by_case (eqb (get_or s.0 e 0) 0)
   where
     by_case : (t : Bool) → length (cond t (set s.0 e (s.1 + 1), s.1 + 1) s).0 ≡ length s.0
     by_case true = length-set s.0 e (s.1 + 1)
     by_case false = refl
 
-mark_more : (s : Marks) (e : ℕ) → (mark1 s e).1 ≤ s.1 + 1
+pub mark_more : (s : Marks) (e : ℕ) → (mark1 s e).1 ≤ s.1 + 1
 mark_more s e = by_case (eqb (get_or s.0 e 0) 0)
   where
     by_case : (t : Bool) → (cond t (set s.0 e (s.1 + 1), s.1 + 1) s).1 ≤ s.1 + 1
     by_case true = omega arith
     by_case false = omega arith
 
-marks_append : (s : Marks) (a b : List ℕ) → mark_all s (a ++ b) ≡ mark_all (mark_all s a) b
+pub marks_append : (s : Marks) (a b : List ℕ) → mark_all s (a ++ b) ≡ mark_all (mark_all s a) b
 unfolding mark_all
 marks_append s [] b = refl
 marks_append s (e ∷ a) b = marks_append (mark1 s e) a b
 
-marks_kept : (s : Marks) (es : List ℕ) → length (mark_all s es).0 ≡ length s.0
+pub marks_kept : (s : Marks) (es : List ℕ) → length (mark_all s es).0 ≡ length s.0
 unfolding mark_all
 marks_kept s [] = refl
 marks_kept s (e ∷ es) = marks_kept (mark1 s e) es ∙ mark_kept s e
 
-marks_more : (s : Marks) (es : List ℕ) → (mark_all s es).1 ≤ s.1 + length es
+pub marks_more : (s : Marks) (es : List ℕ) → (mark_all s es).1 ≤ s.1 + length es
 unfolding mark_all
 marks_more s [] = omega arith
 marks_more s (e ∷ es) = omega (arith, marks_more (mark1 s e) es, mark_more s e)
