@@ -164,7 +164,7 @@ impl Iterator for Points<'_> {
     }
 }
 
-// How many points are usable. By an index: over `Point::all` a point costs a third more, and the count is a loop of its own.
+// How many points are usable. By an index: over `Point::all` a point costs a quarter to three quarters more.
 pub fn usable_count(points: &[f32]) -> usize
     ensures { result ≡ length (usables points.now) }
 {
