@@ -16,11 +16,8 @@ dropped (suc k) (x ∷ xs) =
     let one : suc (length xs - (length xs - k)) ≡ suc (length xs) - (suc (length xs) - suc k) = omega arith in
     dropped k xs ∙ ap (λ (n : ℕ). drop n (x ∷ xs)) one
 
-pub end_dropped : (k : ℕ) (xs : List ℕ) → EndOf xs (drop k xs)
+end_dropped : (k : ℕ) (xs : List ℕ) → EndOf xs (drop k xs)
 end_dropped k xs = dropped k xs ∙ ap (λ (n : ℕ). drop (length xs - n) xs) (sym (length-drop k xs))
-
-pub end_same : (xs : List ℕ) → EndOf xs xs
-end_same xs = end_dropped 0 xs
 
 -- what a call leaves that takes a word off, or finds none
 pub end_by : (k : ℕ) (xs ys : List ℕ) → ys ≡ drop k xs → EndOf xs ys
