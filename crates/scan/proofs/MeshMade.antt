@@ -2,16 +2,18 @@
 -- Assumes nothing.
 use mathlib.Core.Path.{◌≡◌, sym, ap, ap₂, ◌∙◌, subst}
 use mathlib.Core.List.{List}
-use Prim.Native.Nat.{ℕ, ◌*◌, ◌^◌, ◌≤◌}
+use Prim.Native.Nat.{ℕ, ◌*◌, ◌^◌, ◌≤◌, ◌<◌}
 use native.Mathlib.Omega.{arith}
 use lib.ListN.{length, take}
 use lib.Ieee.{Float}
+use Rattle.std.proofs.Common.{mul-le-mul, ⊎_elim}
+use Rattle.lists.specs.Laws.Order.{lt_or_le}
 use Rattle.lists.specs.Laws.Tabulate.{length_tabulate}
 use Rattle.closed.specs.Faces.{Face, corners, faces}
 use Rattle.closed.proofs.Laws.Turning.{faces_corners, length_corners}
 use Rattle.grid.specs.declared.Grid.{Grid}
 use Rattle.grid.specs.declared.Lattice.{Lattice}
-use Rattle.grid.specs.Grid.{Counts, lattice_of}
+use Rattle.grid.specs.Grid.{Sides, Counts, lattice_of}
 use Rattle.ending.specs.declared.Grids.{Grids}
 use Rattle.points.specs.declared.point.Point.{Point}
 use Rattle.settings.specs.declared.Settings.{Settings}
@@ -47,6 +49,19 @@ parts {lent = lent} {edges = edges} ask nodes triple =
       size3 = front_length _ nodes ask.room3;
       numbers = ap (λ (k : ℕ). take k edges) (triple ∙ ap (λ (k : ℕ). 3 * k) nodes) ∙ ask.numbers;
     }
+
+-- the sides of the grid follow from the counts of its lattice: who holds these and all else of what is asked holds the whole
+pub sides_of : (g : Grid) {l : Lattice} → l ≡ lattice_of g → Counts l.counts → Sides g.nodes
+unfolding lattice_of
+sides_of g block counts =
+    let c = subst (λ (m : Lattice). Counts m.counts) block counts in
+    record { two = c.two_x; most = ⊎_elim (λ more. absurd (too_many more c.most)) (λ few. few) (lt_or_le 256 g.nodes) }
+  where
+    too_many : 256 < g.nodes → g.nodes * g.nodes * g.nodes ≤ 16777216 → ⊥
+    too_many more most =
+        let plane : 257 * 257 ≤ g.nodes * g.nodes = mul-le-mul more more in
+        let cube : 257 * 257 * 257 ≤ g.nodes * g.nodes * g.nodes = mul-le-mul plane more in
+        omega (arith, most, cube)
 
 -- what extraction writes is a mesh
 pub mesh_meshed : {values : List Float} {l : Lattice} {level : Float} {vs : List Float} {fs : List ℕ} → Mesh values l level vs fs → Meshed vs fs
