@@ -26,7 +26,7 @@ abbrev pub seen : Option (Bor (List ℕ)) → Option (List ℕ)
 seen None = None
 seen (Some w) = Some w.now
 
--- wherever two such parts lie
+-- two words that the definition allows read the same and leave the same, wherever they lie
 pub words_taken : (text rest rest' : List ℕ) (r r' : Option (Bor (List ℕ))) → TakesWord text r rest → TakesWord text r' rest' → (seen r ≡ seen r') × (rest ≡ rest')
 words_taken text rest rest' None None p q = (refl, same p.0 q.0)
 words_taken text rest rest' None (Some w) p q = absurd (empty text w p.1 q.1.0 q.1.1)
