@@ -50,8 +50,8 @@ parts {lent = lent} {edges = edges} ask nodes triple =
       numbers = ap (λ (k : ℕ). take k edges) (triple ∙ ap (λ (k : ℕ). 3 * k) nodes) ∙ ask.numbers;
     }
 
--- The sides of the grid follow from the counts of its lattice. So whoever holds these counts, and all of `MeshAsked` but the sides, has it whole, and may use the
--- laws below. The proofs of this crate have the sides already.
+-- The sides of the grid follow from the counts of its lattice. So whoever holds these counts, and all of `MeshAsked` but the sides, has it whole, and may use
+-- the laws below. The proofs of this crate have the sides already.
 pub sides_of : (g : Grid) {l : Lattice} → l ≡ lattice_of g → Counts l.counts → Sides g.nodes
 unfolding lattice_of
 sides_of g block counts =
